@@ -1,0 +1,5 @@
+pub mod Parts
+pub mod Standing
+pub mod Answers
+pub mod Shows
+pub mod Steps

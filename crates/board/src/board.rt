@@ -1,0 +1,87 @@
+// The calls on a board.
+ghost use mathlib.Core.Path.{_≡_};
+ghost use Prim.Native.Nat.{ℕ};
+ghost use Rattle.board.specs.Answers.{nothing, write-answer, write-after, erase-answer, erase-after, round-answer, round-after, ask-answer, tell-answer};
+ghost use Rattle.board.specs.Shows.{Shows, Does, Answers, Few-rounds};
+use crate::types::Table;
+use atl::Shown;
+use game::Game;
+use refusal::Refusal;
+
+// A game and the table of the rules that stand on it. The board owns its game until it is closed.
+pub struct Board<G> {
+    game: G,
+    table: Table,
+}
+
+impl<G: Game> Board<G> {
+    // A board on which no rule stands.
+    pub fn new(game: G) -> Board<G>
+        ensures game { λ b. ⌜ b .game ≡ game ⌝ }
+        ensures shows { λ b. ⌜ Shows (G·Game .meaning game) nothing (b .table) ⌝ }
+    {
+        Board {
+            game,
+            table: Table::empty(),
+        }
+    }
+
+    // Ends the board and gives its game back.
+    pub fn close(self) -> G
+        ensures { λ g. ⌜ g ≡ self .game ⌝ }
+    {
+        let Board { game, table: _ } = self;
+        game
+    }
+
+    // Writes a rule and answers its number.
+    pub fn write(&mut self, kind: u8, group: u8, r: u8, s: u8) -> Result<u8, Refusal>
+        ensures game { λ _. ⌜ now (self .exit) .game ≡ now (self .entry) .game ⌝ }
+        ensures does { λ a. ⌜ Does (G·Game .meaning (now (self .entry) .game)) (write-answer (G·Game .meaning (now (self .entry) .game)) kind group r s) (write-after (G·Game .meaning (now (self .entry) .game)) kind group r s) (now (self .entry) .table) (now (self .exit) .table) a ⌝ }
+    {
+        let players = self.game.players();
+        self.table.write(players, kind, group, r, s)
+    }
+
+    // Takes the highest rule away and answers its number.
+    pub fn erase(&mut self) -> Result<u8, Refusal>
+        ensures game { λ _. ⌜ now (self .exit) .game ≡ now (self .entry) .game ⌝ }
+        ensures does { λ a. ⌜ Does (G·Game .meaning (now (self .entry) .game)) erase-answer erase-after (now (self .entry) .table) (now (self .exit) .table) a ⌝ }
+    {
+        self.table.erase()
+    }
+
+    // One more round of a rule; answers how many states it marked, those of number 256 not counted.
+    pub fn round(&mut self, rule: u8) -> Result<u16, Refusal>
+        ensures game { λ _. ⌜ now (self .exit) .game ≡ now (self .entry) .game ⌝ }
+        ensures does { λ a. ⌜ Does (G·Game .meaning (now (self .entry) .game)) (round-answer (G·Game .meaning (now (self .entry) .game)) rule) (round-after (G·Game .meaning (now (self .entry) .game)) rule) (now (self .entry) .table) (now (self .exit) .table) a ⌝ }
+    {
+        match self.table.due(rule) {
+            Ok((r, s)) => Ok(self.table.step(&self.game, rule, r, s)),
+            Err(refusal) => Err(refusal),
+        }
+    }
+
+    // What a rule says of a state: the verdict, and its number.
+    pub fn ask(&self, rule: u8, state: u8) -> Result<Shown, Refusal>
+        ensures { λ a. ⌜ Answers (G·Game .meaning (now (self .entry) .game)) (ask-answer (G·Game .meaning (now (self .entry) .game)) rule state) (now (self .entry) .table) a ⌝ }
+    {
+        let (states, _) = self.game.states();
+        self.table.ask(states, rule, state)
+    }
+
+    // The rounds that a rule has had, and whether it is settled.
+    pub fn tell(&self, rule: u8) -> Result<(u16, bool), Refusal>
+        ensures answer { λ a. ⌜ Answers (G·Game .meaning (now (self .entry) .game)) (tell-answer (G·Game .meaning (now (self .entry) .game)) rule) (now (self .entry) .table) a ⌝ }
+        ensures few { λ a. ⌜ Few-rounds (G·Game .meaning (now (self .entry) .game)) (now (self .entry) .table) a ⌝ }
+    {
+        self.table.tell(rule)
+    }
+
+    // The game that the board holds.
+    pub fn game(&self) -> &G
+        ensures { λ g. ⌜ now g ≡ now (self .entry) .game ⌝ }
+    {
+        &self.game
+    }
+}

@@ -1,0 +1,9 @@
+pub mod Walk
+pub mod Members
+pub mod Joins
+pub mod Division
+pub mod Reading
+pub mod Highest
+pub mod Under
+pub mod Tested
+pub mod Making
