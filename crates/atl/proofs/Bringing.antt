@@ -60,9 +60,9 @@ module _ (m : Structure) (L : Limits m) (A : ℕ) where
       forced : ((p : ℕ) → p < m .states → hold p (T p) ≡ a → Group-brings m A p (T p) a) → Some-strategy-forces m A G q
       forced bring =
           let f = chosen (m .states) Serves (λ p b. ⊎-elim
-              (λ e. let g = bring p b e in (g .0, (g .1, λ e. g .2)))
-              (λ ne. let c = divided m A p L b .some-choice in (c .0, (c .1, λ e. absurd (ne e))))
-              (same-or-not (hold p (T p)) a)) in
+          (λ e. let g = bring p b e in (g .0, (g .1, λ e. g .2)))
+          (λ ne. let c = divided m A p L b .some-choice in (c .0, (c .1, λ e. absurd (ne e))))
+          (same-or-not (hold p (T p)) a)) in
           let s : Strategy m A (f .0) = λ p b. f .1 p b .0 in
           (f .0, s, λ ρ o. let b = inside (f .0) q ρ l s o in meets ρ (o .from) b (serves-obeys (f .0) (f .1) q ρ b o))
 

@@ -66,32 +66,33 @@ module _ (m : Structure) (rules : List Rule) (n : ℕ) where
   below-same : (x : Standing) (below : Stack) → Orderly m below x → Kept-settled below → (x .rounds ≡ 0) ⊎ (marks-of m x (yes-states m below) ≡ marks-of m x (yes-states m (advanced n below)))
   below-same x below o k = ⊎-elim inl
       (λ (w : waits (settled m below) (x .kind) (x .r) (x .s) ≡ false).
-        inr (marks-same m (x .kind) (x .group) (x .r) _ _ _ _
-          (λ u. sym (k (x .r) (done-r (settled m below) (x .kind) (x .r) (x .s) w u) .0))
-          (λ u. sym (k (x .s) (done-s (settled m below) (x .kind) (x .r) (x .s) w u) .0))))
+      inr (marks-same m (x .kind) (x .group) (x .r) _ _ _ _
+      (λ u. sym (k (x .r) (done-r (settled m below) (x .kind) (x .r) (x .s) w u) .0))
+      (λ u. sym (k (x .s) (done-s (settled m below) (x .kind) (x .r) (x .s) w u) .0))))
       (o .ready)
 
   kept-settled : (st : Stack) → All-right m rules st → settled m st n ≡ false → Kept-settled st
   kept-settled [] a u p e = absurd (true≢false (sym e))
   kept-settled (x ∷ below) a u p e = ⊎-elim
       (λ (i : n ≡ length below).
-        let d : p ≡ length below → ⊥ = λ j. true≢false (sym e ∙ ap (settled m (x ∷ below)) (j ∙ sym i) ∙ u) in
-        subst (λ (st : Stack). (yes-states m st p ≡ yes-states m (x ∷ below) p) × (settled m st p ≡ true)) (sym (top below n (one-more x ∷ below) (x ∷ advanced n below) i))
-        (fun-ext (λ q. under below p _ _ d ∙ sym (under below p _ _ d)), under below p _ _ d ∙ sym (under below p _ _ d) ∙ e))
+      let d : p ≡ length below → ⊥ = λ j. true≢false (sym e ∙ ap (settled m (x ∷ below)) (j ∙ sym i) ∙ u) in
+      subst (λ (st : Stack). (yes-states m st p ≡ yes-states m (x ∷ below) p) × (settled m st p ≡ true)) (sym (top below n (one-more x ∷ below) (x ∷ advanced n below) i))
+      (fun-ext (λ q. under below p _ _ d ∙ sym (under below p _ _ d)), under below p _ _ d ∙ sym (under below p _ _ d) ∙ e))
       (λ (i : n ≡ length below → ⊥).
-        let k = kept-settled below (a .2) (sym (under below n _ _ i) ∙ u) in
-        subst (λ (st : Stack). (yes-states m st p ≡ yes-states m (x ∷ below) p) × (settled m st p ≡ true)) (sym (under below n (one-more x ∷ below) (x ∷ advanced n below) i))
-        (⊎-elim
-          (λ (j : p ≡ length below).
-            let j′ : p ≡ length (advanced n below) = j ∙ sym (length-advanced n below) in
-            let s = below-same x below (a .0) k in
-            (fun-ext (λ q. top (advanced n below) p _ _ j′ ∙ ap is-yes (sym (same-mark m x (yes-states m below) (yes-states m (advanced n below)) s q)) ∙ sym (top below p _ _ j)),
-             top (advanced n below) p _ _ j′ ∙ sym (same-settled m x (yes-states m below) (yes-states m (advanced n below)) s) ∙ sym (top below p _ _ j) ∙ e))
-          (λ (j : p ≡ length below → ⊥).
-            let j′ : p ≡ length (advanced n below) → ⊥ = λ i. j (i ∙ length-advanced n below) in
-            let h = k p (sym (under below p _ _ j) ∙ e) in
-            (fun-ext (λ q. under (advanced n below) p _ _ j′ ∙ ap (λ (f : ℕ → Bool). f q) (h .0) ∙ sym (under below p _ _ j)), under (advanced n below) p _ _ j′ ∙ h .1))
-          (cases-eq p (length below))))
+      let k = kept-settled below (a .2) (sym (under below n _ _ i) ∙ u) in
+      subst (λ (st : Stack). (yes-states m st p ≡ yes-states m (x ∷ below) p) × (settled m st p ≡ true)) (sym (under below n (one-more x ∷ below) (x ∷ advanced n below) i))
+      (⊎-elim
+      (λ (j : p ≡ length below).
+      let j′ : p ≡ length (advanced n below) = j ∙ sym (length-advanced n below) in
+      let s = below-same x below (a .0) k in (
+        fun-ext (λ q. top (advanced n below) p _ _ j′ ∙ ap is-yes (sym (same-mark m x (yes-states m below) (yes-states m (advanced n below)) s q)) ∙ sym (top below p _ _ j)),
+        top (advanced n below) p _ _ j′ ∙ sym (same-settled m x (yes-states m below) (yes-states m (advanced n below)) s) ∙ sym (top below p _ _ j) ∙ e,
+      ))
+      (λ (j : p ≡ length below → ⊥).
+      let j′ : p ≡ length (advanced n below) → ⊥ = λ i. j (i ∙ length-advanced n below) in
+      let h = k p (sym (under below p _ _ j) ∙ e) in
+      (fun-ext (λ q. under (advanced n below) p _ _ j′ ∙ ap (λ (f : ℕ → Bool). f q) (h .0) ∙ sym (under below p _ _ j)), under (advanced n below) p _ _ j′ ∙ h .1))
+      (cases-eq p (length below))))
       (cases-eq n (length below))
 
   -- the records of the lower rules are not touched
@@ -108,18 +109,18 @@ module _ (m : Structure) (rules : List Rule) (n : ℕ) where
   advance y l [] a u new = tt
   advance y l (x ∷ below) a u new = ⊎-elim
       (λ (i : n ≡ length below).
-        let r = new x below (top below n _ _ i) in
-        subst (λ (st : Stack). All-right m (set rules n y) st) (sym (top below n (one-more x ∷ below) (x ∷ advanced n below) i))
-        (r .0, subst (λ j. Right m below (one-more x) (rule-at (set rules n y) j)) i (subst (Right m below (one-more x)) (sym same-rule) (r .1)), untouched y below (omega arith) (a .2)))
+      let r = new x below (top below n _ _ i) in
+      subst (λ (st : Stack). All-right m (set rules n y) st) (sym (top below n (one-more x ∷ below) (x ∷ advanced n below) i))
+      (r .0, subst (λ j. Right m below (one-more x) (rule-at (set rules n y) j)) i (subst (Right m below (one-more x)) (sym same-rule) (r .1)), untouched y below (omega arith) (a .2)))
       (λ (i : n ≡ length below → ⊥).
-        let u′ : settled m below n ≡ false = sym (under below n _ _ i) ∙ u in
-        let k = kept-settled below (a .2) u′ in
-        let s = below-same x below (a .0) k in
-        let Y = yes-states m below in
-        let Y′ = yes-states m (advanced n below) in
-        let e : length (advanced n below) ≡ length below = length-advanced n below in
-        subst (λ (st : Stack). All-right m (set rules n y) st) (sym (under below n (one-more x ∷ below) (x ∷ advanced n below) i))
-        (record {
+      let u′ : settled m below n ≡ false = sym (under below n _ _ i) ∙ u in
+      let k = kept-settled below (a .2) u′ in
+      let s = below-same x below (a .0) k in
+      let Y = yes-states m below in
+      let Y′ = yes-states m (advanced n below) in
+      let e : length (advanced n below) ≡ length below = length-advanced n below in
+      subst (λ (st : Stack). All-right m (set rules n y) st) (sym (under below n (one-more x ∷ below) (x ∷ advanced n below) i)) (
+        record {
           part-r = λ b. omega (arith, a .0 .part-r b, e);
           part-s = λ b. omega (arith, a .0 .part-s b, e);
           ready = ⊎-elim inl (λ (w : waits (settled m below) (x .kind) (x .r) (x .s) ≡ false). inr (waits-not (settled m (advanced n below)) (x .kind) (x .r) (x .s)
@@ -127,17 +128,18 @@ module _ (m : Structure) (rules : List Rule) (n : ℕ) where
               (λ b. k (x .s) (done-s (settled m below) (x .kind) (x .r) (x .s) w b) .1))) (a .0 .ready);
           going = λ j b. sym (same-going m x Y Y′ s j b) ∙ a .0 .going j b;
         },
-         subst (Right m (advanced n below) x) (sym (other-rule (length (advanced n below)) (λ j. i (sym j ∙ e)) ∙ ap (rule-at rules) e))
-         (record {
-           kind = a .1 .kind;
-           group = a .1 .group;
-           r = a .1 .r;
-           s = a .1 .s;
-           condition = a .1 .condition ∙ ap (condition-of (x .rounds)) (same-settled m x Y Y′ s);
-           long = a .1 .long;
-           marks = λ q b. a .1 .marks q b ∙ same-mark m x Y Y′ s q;
-         }),
-         advance y l below (a .2) u′ (λ z b e. new z b (under below n _ _ i ∙ e))))
+        subst (Right m (advanced n below) x) (sym (other-rule (length (advanced n below)) (λ j. i (sym j ∙ e)) ∙ ap (rule-at rules) e))
+            (record {
+              kind = a .1 .kind;
+              group = a .1 .group;
+              r = a .1 .r;
+              s = a .1 .s;
+              condition = a .1 .condition ∙ ap (condition-of (x .rounds)) (same-settled m x Y Y′ s);
+              long = a .1 .long;
+              marks = λ q b. a .1 .marks q b ∙ same-mark m x Y Y′ s q;
+            }),
+        advance y l below (a .2) u′ (λ z b e. new z b (under below n _ _ i ∙ e)),
+      ))
       (cases-eq n (length below))
     where
       same-rule : rule-at (set rules n y) n ≡ y

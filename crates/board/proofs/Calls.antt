@@ -74,10 +74,11 @@ module _ (m : Structure) (L : Limits m) (t t′ : Table) (kind A r s : ℕ) wher
         long = ap length (w .1) ∙ rw length-set (p .long);
         most = omega (arith, p .count);
         count = w .0 ∙ add-one (t .count) ∙ ap suc (p .count);
-        rules = subst (λ (l : List Rule). All-right m l (fresh f A r s ∷ st)) (sym (w .1))
-            (record { part-r = λ u. omega (arith, d .part-r u, p .count); part-s = λ u. omega (arith, d .part-s u, p .count); ready = inl refl; going = λ j b. absurd (omega arith) },
-             subst (λ i. Right m st (fresh f A r s) (rule-at (set (t .rules) (t .count) y) i)) (p .count) (subst (Right m st (fresh f A r s)) (sym (same-rule (t .rules) (t .count) y (omega (arith, p .long)))) (fresh-right st f)),
-             untouched m (t .rules) (t .count) y st (omega (arith, p .count)) (p .rules));
+        rules = subst (λ (l : List Rule). All-right m l (fresh f A r s ∷ st)) (sym (w .1)) (
+          record { part-r = λ u. omega (arith, d .part-r u, p .count); part-s = λ u. omega (arith, d .part-s u, p .count); ready = inl refl; going = λ j b. absurd (omega arith) },
+          subst (λ i. Right m st (fresh f A r s) (rule-at (set (t .rules) (t .count) y) i)) (p .count) (subst (Right m st (fresh f A r s)) (sym (same-rule (t .rules) (t .count) y (omega (arith, p .long)))) (fresh-right st f)),
+          untouched m (t .rules) (t .count) y st (omega (arith, p .count)) (p .rules),
+        );
       }
 
   kept-if : (x : Result Kind Refusal) → Wrote t t′ A r s x → (e : Refusal) → number-if (t .count) x ≡ Err e → t′ ≡ t
@@ -135,10 +136,10 @@ pub record Tested (t : Table) (n : ℕ) (parts : ℕ × ℕ) : Type 0 where
 pub tested : (t : Table) (n : ℕ) (parts : ℕ × ℕ) → due-table t n ≡ Ok parts → Tested t n parts
 tested t n parts h = ⊎-elim
     (λ (b : ltb n (t .count) ≡ true).
-      let w = waits (settled-in t) (rule-at (t .rules) n .kind) (rule-at (t .rules) n .r) (rule-at (t .rules) n .s) in
-      let q = past w PartUnsettled _ parts (sym (cond-true _ _ (Err NoRule) b) ∙ h) in
-      let r = past (is-settled (rule-at (t .rules) n .condition)) AlreadySettled (Ok (rule-at (t .rules) n .r, rule-at (t .rules) n .s)) parts (q .1) in
-      record { up = b; ready = q .0; unsettled = r .0; parts-are = sym (ok-ok (r .1)) })
+    let w = waits (settled-in t) (rule-at (t .rules) n .kind) (rule-at (t .rules) n .r) (rule-at (t .rules) n .s) in
+    let q = past w PartUnsettled _ parts (sym (cond-true _ _ (Err NoRule) b) ∙ h) in
+    let r = past (is-settled (rule-at (t .rules) n .condition)) AlreadySettled (Ok (rule-at (t .rules) n .r, rule-at (t .rules) n .s)) parts (q .1) in
+    record { up = b; ready = q .0; unsettled = r .0; parts-are = sym (ok-ok (r .1)) })
     (λ (b : ltb n (t .count) ≡ false). err-ok (sym (cond-false _ (due-rule (settled-in t) (rule-at (t .rules) n)) (Err NoRule) b) ∙ h))
     (cases-bool (ltb n (t .count)))
   where
@@ -218,8 +219,8 @@ module _ (m : Structure) (t : Table) (st : Stack) (p : Shows m st t) where
         ap (λ (k : Kind). waits (settled-in t) k (rule-at (t .rules) n .r) (rule-at (t .rules) n .s)) (f .right .kind)
         ∙ ap₂ (λ r s. waits (settled-in t) (x .kind) r s) (f .right .r) (f .right .s)
         ∙ ap₂ (λ a b. a || b)
-            (used (uses-r (x .kind)) (settled-in t (x .r)) (settled m (f .below) (x .r)) (λ u. settled-low-is (x .r) (omega (arith, f .orderly .part-r u, f .height))))
-            (used (uses-s (x .kind)) (settled-in t (x .s)) (settled m (f .below) (x .s)) (λ u. settled-low-is (x .s) (omega (arith, f .orderly .part-s u, f .height))))
+        (used (uses-r (x .kind)) (settled-in t (x .r)) (settled m (f .below) (x .r)) (λ u. settled-low-is (x .r) (omega (arith, f .orderly .part-r u, f .height))))
+        (used (uses-s (x .kind)) (settled-in t (x .s)) (settled m (f .below) (x .s)) (λ u. settled-low-is (x .s) (omega (arith, f .orderly .part-s u, f .height))))
 
     -- the yes states of a part
     pub part-states : (ys : List Bool) (i j : ℕ) → i ≡ j → j < n → m .states ≤ 256 → Yes-array t i ys → (q : ℕ) → q < m .states → set-of ys q ≡ yes-states m (f .below) j q
@@ -242,8 +243,8 @@ module _ (m : Structure) (t : Table) (st : Stack) (p : Shows m st t) where
   pub round-refused : (n : ℕ) (e : Refusal) → due-table t n ≡ Err e → round-answer m n st ≡ Err e
   round-refused n e h = ⊎-elim
       (λ (b : ltb n (t .count) ≡ true).
-        let f = at n b in
-        ap (round-of m) (f .is) ∙ round-tests n f ∙ refused-by (waits (settled-in t) (rule-at (t .rules) n .kind) (rule-at (t .rules) n .r) (rule-at (t .rules) n .s)) (is-settled (rule-at (t .rules) n .condition)) (rule-at (t .rules) n .r, rule-at (t .rules) n .s) (count-of (f .rule) (f .below)) e (sym (cond-true _ _ (Err NoRule) b) ∙ h))
+      let f = at n b in
+      ap (round-of m) (f .is) ∙ round-tests n f ∙ refused-by (waits (settled-in t) (rule-at (t .rules) n .kind) (rule-at (t .rules) n .r) (rule-at (t .rules) n .s)) (is-settled (rule-at (t .rules) n .condition)) (rule-at (t .rules) n .r, rule-at (t .rules) n .s) (count-of (f .rule) (f .below)) e (sym (cond-true _ _ (Err NoRule) b) ∙ h))
       (λ (b : ltb n (t .count) ≡ false). ap (round-of m) (gone n b) ∙ err-err (sym (cond-false _ (due-rule (settled-in t) (rule-at (t .rules) n)) (Err NoRule) b) ∙ h))
       (cases-bool (ltb n (t .count)))
 
@@ -292,9 +293,10 @@ module _ (m : Structure) (t : Table) (st : Stack) (p : Shows m st t) where
         next : (x : Standing) (below : Stack) → found st n ≡ Some (x, below) → Orderly m below (one-more x) × Right m below (one-more x) (rule-at (t′ .rules) n)
         next x below e =
             let same : (f .rule, f .below) ≡ (x, below) = same-found (sym (f .is) ∙ e) in
-            subst (λ (z : Standing × Stack). Orderly m (z .1) (one-more (z .0)) × Right m (z .1) (one-more (z .0)) (rule-at (t′ .rules) n)) same
-            (orderly-next m L (f .below) (f .rule) (rule-at (t .rules) n) (f .orderly) (f .right) (d .ready) (d .unsettled) (s .yes-r) (s .yes-s) is-r is-s (rule-at (t′ .rules) n) c worked,
-             right-next m L (f .below) (f .rule) (rule-at (t .rules) n) (f .orderly) (f .right) (d .ready) (d .unsettled) (s .yes-r) (s .yes-s) is-r is-s (rule-at (t′ .rules) n) c worked)
+            subst (λ (z : Standing × Stack). Orderly m (z .1) (one-more (z .0)) × Right m (z .1) (one-more (z .0)) (rule-at (t′ .rules) n)) same (
+              orderly-next m L (f .below) (f .rule) (rule-at (t .rules) n) (f .orderly) (f .right) (d .ready) (d .unsettled) (s .yes-r) (s .yes-s) is-r is-s (rule-at (t′ .rules) n) c worked,
+              right-next m L (f .below) (f .rule) (rule-at (t .rules) n) (f .orderly) (f .right) (d .ready) (d .unsettled) (s .yes-r) (s .yes-s) is-r is-s (rule-at (t′ .rules) n) c worked,
+            )
           where
             same-found : {a b : Standing × Stack} → _≡_ {A = Option (Standing × Stack)} (Some a) (Some b) → a ≡ b
             same-found h = cc

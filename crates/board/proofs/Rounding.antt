@@ -40,9 +40,9 @@ pub few-before : (m : Structure) (below : Stack) (x : Standing) → Orderly m be
 few-before m below x o u =
     quiet-comes m (x .group) (x .r) (yes-states m below (x .r)) (yes-states m below (x .s)) (m .states) (x .rounds) (x .kind)
     (λ j l b. ⊎-elim
-      (λ (d : j < x .rounds). o .going j d)
-      (λ (d : x .rounds ≤ j). let e : x .rounds ≡ j = omega arith in subst (λ i. settles (m .states) (x .kind) (marks-of m x (yes-states m below)) i ≡ false) e u)
-      (cases-lt j (x .rounds)))
+    (λ (d : j < x .rounds). o .going j d)
+    (λ (d : x .rounds ≤ j). let e : x .rounds ≡ j = omega arith in subst (λ i. settles (m .states) (x .kind) (marks-of m x (yes-states m below)) i ≡ false) e u)
+    (cases-lt j (x .rounds)))
 
 module _ (m : Structure) (L : Limits m) (below : Stack) (x : Standing) (y : Rule) (o : Orderly m below x) (r : Right m below x y)
     (ready : waits (settled m below) (x .kind) (x .r) (x .s) ≡ false) (u : settled-of m x (yes-states m below) ≡ false)

@@ -58,20 +58,20 @@ find m rules (x ∷ below) a n l =
       settled-low = λ p d. under below p _ _ (λ i. omega arith);
     })
     (λ (d : n ≡ length below → ⊥).
-      let f = find m rules below (a .2) n (omega (arith, (λ (e : n ≡ length below). d e))) in
-      record {
-        rule = f .rule;
-        below = f .below;
-        is = under below n _ _ d ∙ f .is;
-        height = f .height;
-        orderly = f .orderly;
-        right = f .right;
-        rest = f .rest;
-        yes-is = λ q. under below n _ _ d ∙ f .yes-is q;
-        settled-is = under below n _ _ d ∙ f .settled-is;
-        yes-low = λ p b. fun-ext (λ q. under below p _ _ (λ i. omega (arith, f .height))) ∙ f .yes-low p b;
-        settled-low = λ p b. under below p _ _ (λ i. omega (arith, f .height)) ∙ f .settled-low p b;
-      })
+    let f = find m rules below (a .2) n (omega (arith, (λ (e : n ≡ length below). d e))) in
+    record {
+      rule = f .rule;
+      below = f .below;
+      is = under below n _ _ d ∙ f .is;
+      height = f .height;
+      orderly = f .orderly;
+      right = f .right;
+      rest = f .rest;
+      yes-is = λ q. under below n _ _ d ∙ f .yes-is q;
+      settled-is = under below n _ _ d ∙ f .settled-is;
+      yes-low = λ p b. fun-ext (λ q. under below p _ _ (λ i. omega (arith, f .height))) ∙ f .yes-low p b;
+      settled-low = λ p b. under below p _ _ (λ i. omega (arith, f .height)) ∙ f .settled-low p b;
+    })
     (cases-eq n (length below))
 
 pub missing : (st : Stack) (n : ℕ) → length st ≤ n → found st n ≡ None

@@ -66,13 +66,7 @@ fn has(set: &[bool; 256], state: u8) -> bool
 }
 
 // Whether the state holds for the set.
-fn holds<G: Game>(
-    game: &G,
-    modality: Modality,
-    group: u8,
-    state: u8,
-    inside: &[bool; 256],
-) -> bool
+fn holds<G: Game>(game: &G, modality: Modality, group: u8, state: u8, inside: &[bool; 256]) -> bool
     ensures { λ r. ⌜ r ≡ holdsFor (G·Game .meaning (now (game .entry))) modality group state (set-of (now (inside .entry))) ⌝ }
 {
     match modality {
@@ -124,9 +118,8 @@ fn moved_on(condition: Condition, kind: Kind, marked: u16) -> Condition
 {
     let done = rounds(condition).saturating_add(1);
     match kind {
-        Kind::Strategic(_, Temporal::Until) | Kind::Strategic(_, Temporal::Unless) if marked > 0 => {
-            Condition::Working(done)
-        }
+        Kind::Strategic(_, Temporal::Until) | Kind::Strategic(_, Temporal::Unless) if marked > 0 =>
+            { Condition::Working(done) }
         _ => Condition::Settled(done),
     }
 }
@@ -170,12 +163,21 @@ impl Rule {
                 decided(holds(game, modality, self.group, state, &sets.r))
             }
             (Condition::Fresh, Kind::Strategic(_, Temporal::Until)) => mark_if(s, Mark::Yes(0)),
-            (Condition::Fresh, Kind::Strategic(_, Temporal::Unless)) => mark_if(!r && !s, Mark::No(0)),
+            (Condition::Fresh, Kind::Strategic(_, Temporal::Unless)) => mark_if(
+                !r && !s,
+                Mark::No(0),
+            ),
             (Condition::Working(k), Kind::Strategic(modality, Temporal::Until)) => {
-                mark_if(r && holds(game, modality, self.group, state, &sets.aim), Mark::Yes(k))
+                mark_if(
+                    r && holds(game, modality, self.group, state, &sets.aim),
+                    Mark::Yes(k),
+                )
             }
             (Condition::Working(k), Kind::Strategic(modality, Temporal::Unless)) => {
-                mark_if(!s && !holds(game, modality, self.group, state, &sets.aim), Mark::No(k))
+                mark_if(
+                    !s && !holds(game, modality, self.group, state, &sets.aim),
+                    Mark::No(k),
+                )
             }
             (Condition::Settled(_), Kind::Strategic(_, _)) => Mark::Open,
         }
@@ -184,7 +186,11 @@ impl Rule {
     fn new_mark<G: Game>(&self, game: &G, state: u8, old: Mark, sets: &Sets) -> Mark
         ensures { λ r. ⌜ r ≡ new-mark (G·Game .meaning (now (game .entry))) (now (self .entry)) (now (sets .entry)) state old ⌝ }
     {
-        if open(old) { self.proposal(game, state, sets) } else { old }
+        if open(old) {
+            self.proposal(game, state, sets)
+        } else {
+            old
+        }
     }
 
     // Marks the states that the next round marks, and counts them.

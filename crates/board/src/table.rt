@@ -53,7 +53,11 @@ fn group_refused(players: u8, kind: Kind, group: u8) -> bool
     requires { ⌜ players ≤ 6 ⌝ }
     ensures { λ a. ⌜ a ≡ bad-group players kind group ⌝ }
 {
-    if has_group(kind) { group >= 1 << players } else { group != 0 }
+    if has_group(kind) {
+        group >= 1 << players
+    } else {
+        group != 0
+    }
 }
 
 fn part_refused(count: u8, kind: Kind, r: u8, s: u8) -> bool
@@ -117,7 +121,14 @@ impl Table {
         Ok((rounds(condition), settled(condition)))
     }
 
-    pub(crate) fn write(&mut self, players: u8, kind: u8, group: u8, r: u8, s: u8) -> Result<u8, Refusal>
+    pub(crate) fn write(
+        &mut self,
+        players: u8,
+        kind: u8,
+        group: u8,
+        r: u8,
+        s: u8,
+    ) -> Result<u8, Refusal>
         requires { ⌜ players ≤ 6 ⌝ }
         ensures answer { λ a. ⌜ a ≡ number-if (now (self .entry) .count) (taken players (now (self .entry) .count) kind group r s) ⌝ }
         ensures table { λ _. ⌜ Wrote (now (self .entry)) (now (self .exit)) group r s (taken players (now (self .entry) .count) kind group r s) ⌝ }

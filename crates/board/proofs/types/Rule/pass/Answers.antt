@@ -17,11 +17,12 @@ one-at-most false k e = omega arith
 pub loop-state-again : need.loop-state-again
 loop-state-again g c =
     let m = g .G·Game .meaning (c .args .game .now) in
-    let many = g .G·Game .limits (c .args .game .now) .many in
-    (λ long.
-      let p = c .loop-state .inv .0 long in
-      passed-more m (c .args .self .now) (c .args .sets .now) (c .loop-state .state) (c .loop-state .self) (c .loop-state .marked) (c .newly-marked .result) (c .new-mark-new .result) (omega (arith, p .kept .long, many, c .states-states .ensures .0)) p (c .new-mark-new .ensures) (c .newly-marked .ensures),
-     omega (arith, one-at-most _ (c .newly-marked .result) (c .newly-marked .ensures), c .loop-state .inv .1))
+    let many = g .G·Game .limits (c .args .game .now) .many in (
+      λ long.
+          let p = c .loop-state .inv .0 long in
+          passed-more m (c .args .self .now) (c .args .sets .now) (c .loop-state .state) (c .loop-state .self) (c .loop-state .marked) (c .newly-marked .result) (c .new-mark-new .result) (omega (arith, p .kept .long, many, c .states-states .ensures .0)) p (c .new-mark-new .ensures) (c .newly-marked .ensures),
+      omega (arith, one-at-most _ (c .newly-marked .result) (c .newly-marked .ensures), c .loop-state .inv .1),
+    )
 
 pub add-marked : need.add-marked
 add-marked g c = omega (arith, one-at-most _ (c .newly-marked .result) (c .newly-marked .ensures), c .loop-state .inv .1, g .G·Game .limits (c .args .game .now) .many, c .states-states .ensures .0)

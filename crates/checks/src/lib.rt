@@ -1,0 +1,140 @@
+// The edges of the games and of the board, by example.
+#[cfg(test)]
+mod tests {
+    use atl::Shown;
+    use atl::ShownDebug;
+    use atl::ShownPartialEq;
+    use atl::Verdict;
+    use atl::VerdictDebug;
+    use atl::VerdictPartialEq;
+    use board::Board;
+    use drill::Drill;
+    use drill::DrillGame;
+    use game::Game;
+    use game::is_choice;
+    use game::is_vector;
+    use refusal::Refusal;
+    use std::test::*;
+
+    fn drill(limit: u8) -> Result<Drill, Fail> {
+        match Drill::new(limit) {
+            Ok(drill) => Ok(drill),
+            Err(_) => Err(Fail::new("no drill of this limit")),
+        }
+    }
+
+    fn limit_refused(limit: u8) -> u8 {
+        match Drill::new(limit) {
+            Ok(_) => 0,
+            Err(refusal) => refusal.number(),
+        }
+    }
+
+    // The number of the refusal, or 0 where the call was taken.
+    fn refused<T: Drop>(answer: Result<T, Refusal>) -> u8 {
+        match answer {
+            Ok(_) => 0,
+            Err(refusal) => refusal.number(),
+        }
+    }
+
+    #[test]
+    fn drill_limits() -> Result<(), Fail> {
+        check_eq(limit_refused(0), 13)?;
+        check_eq(limit_refused(1), 0)?;
+        check_eq(limit_refused(253), 0)?;
+        check_eq(limit_refused(254), 13)?;
+        let (states, start) = drill(253)?.states();
+        check(states == 256 && start == 0)
+    }
+
+    #[test]
+    fn drill_vectors() -> Result<(), Fail> {
+        let d = drill(1)?;
+        check(is_vector(&d, 0, 0x11) && is_vector(&d, 1, 0x22))?;
+        check(!is_vector(&d, 0, 0x01) && !is_vector(&d, 0, 0x31) && !is_vector(&d, 0, 0x111))?;
+        check(is_vector(&d, 2, 0x11) && !is_vector(&d, 2, 0x12) && !is_vector(&d, 4, 0x11))?;
+        check(is_choice(&d, 0, 1, 0x02) && !is_choice(&d, 0, 1, 0x22) && is_choice(&d, 0, 0, 0))?;
+        check_eq(d.next(1, 0x12), Some(3))?;
+        check_eq(d.next(0, 0x12), Some(1))?;
+        check_eq(d.next(0, 0x22), Some(2))?;
+        check_eq(d.next(0, 0x31), None)
+    }
+
+    fn filled() -> Result<Board<Drill>, Fail> {
+        let mut board = Board::new(drill(1)?);
+        for _ in 0..31 {
+            let _ = board.write(0, 0, 8, 0);
+        }
+        Ok(board)
+    }
+
+    #[test]
+    fn thirty_two_rules() -> Result<(), Fail> {
+        let mut board = filled()?;
+        let last = refused(board.write(0, 0, 15, 0));
+        let full = refused(board.write(0, 0, 8, 0));
+        let full_before_kind = refused(board.write(9, 9, 99, 9));
+        let erased = refused(board.erase());
+        let again = refused(board.write(0, 0, 8, 0));
+        let _ = board.close();
+        check(last == 0 && full == 1 && full_before_kind == 1 && erased == 0 && again == 0)
+    }
+
+    #[test]
+    fn writes_refused_in_order() -> Result<(), Fail> {
+        let mut board = Board::new(drill(1)?);
+        let kind = refused(board.write(9, 9, 99, 9));
+        let group = refused(board.write(3, 4, 99, 9));
+        let no_group = refused(board.write(1, 1, 99, 9));
+        let label = refused(board.write(0, 0, 16, 0));
+        let unused = refused(board.write(0, 0, 15, 1));
+        let part = refused(board.write(1, 0, 0, 0));
+        let nothing = refused(board.erase());
+        let _ = board.close();
+        check(kind == 2 && group == 3 && no_group == 3)?;
+        check(label == 4 && unused == 4 && part == 4 && nothing == 5)
+    }
+
+    #[test]
+    fn rounds_and_questions_refused_in_order() -> Result<(), Fail> {
+        let mut board = Board::new(drill(1)?);
+        let _ = board.write(0, 0, 8, 0);
+        let _ = board.write(1, 0, 0, 0);
+        let no_rule = refused(board.round(2));
+        let part = refused(board.round(1));
+        let first = refused(board.round(0));
+        let settled = refused(board.round(0));
+        let second = refused(board.round(1));
+        let no_state = refused(board.ask(0, 4));
+        let rule_first = refused(board.ask(2, 4));
+        let untold = refused(board.tell(2));
+        let _ = board.close();
+        check(no_rule == 5 && part == 7 && first == 0 && settled == 8 && second == 0)?;
+        check(no_state == 6 && rule_first == 5 && untold == 5)
+    }
+
+    #[test]
+    fn open_until_asked() -> Result<(), Fail> {
+        let mut board = Board::new(drill(1)?);
+        let _ = board.write(0, 0, 8, 0);
+        let before = board.ask(0, 2);
+        let _ = board.round(0);
+        let after = board.ask(0, 2);
+        let _ = board.close();
+        check_eq(
+            before.ok(),
+            Some(Shown {
+                verdict: Verdict::Open,
+                number: 256,
+            }),
+        )?;
+        check_eq(
+            after.ok(),
+            Some(Shown {
+                verdict: Verdict::Yes,
+                number: 0,
+            }),
+        )
+    }
+}
