@@ -5,7 +5,6 @@ use mathlib.Core.Path.{_≡_, refl, sym, ap, subst, _∙_, fun-ext}
 use Prim.Native.Nat.{ℕ, zero, suc, _<_, _≤_, zero-le, suc-le-suc}
 use native.Mathlib.Nat.{le-refl, le-of-suc-le-suc}
 use native.Mathlib.Omega.{arith}
-use lib.Dec.{eqb}
 use Rattle.std.proofs.shelf.Tests.{cases-bool, and-parts, and-from, both-ways, cases-lt, le-ltb, lt-ltb, ltb-true, not-from-false, true≢false, false≢true}
 use Rattle.atl.specs.declared.Mark.{Mark}
 use Rattle.atl.specs.declared.Mark.the-variants.{Open, Yes, No}

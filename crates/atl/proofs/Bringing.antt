@@ -2,18 +2,17 @@
 use mathlib.Core.Bool.{Bool, true, false}
 use mathlib.Core.List.{List, [], _∷_}
 use mathlib.Core.Logic.{_⊎_, inl, inr, ⊎-elim}
-use mathlib.Core.Path.{_≡_, refl, sym, ap, subst, _∙_}
+use mathlib.Core.Path.{_≡_, refl, sym, ap, subst}
 use Prim.Native.Nat.{ℕ, zero, suc, _<_, _≤_}
 use native.Mathlib.Omega.{arith}
 use Rattle.std.proofs.shelf.Tests.{cases-lt, true≢false, false≢true}
 use Rattle.game.specs.Structure.{Structure, Limits, Choice}
-use Rattle.game.specs.Divided.{Divided}
 use Rattle.game.specs.Reading.{Every-reply}
 use Rattle.game.proofs.Division.{divided}
 use Rattle.atl.specs.declared.Modality.{Modality}
 use Rattle.atl.specs.declared.Modality.the-variants.{Can, Despite}
 use Rattle.atl.specs.Rounds.{Power, holds}
-use Rattle.atl.specs.Strategy.{Run, Goal, Set, Step, Strategy, Outcome, so-far, Remembering, Remembered, Some-strategy-forces, Each-remembering-allows}
+use Rattle.atl.specs.Strategy.{Run, Goal, Set, Step, Strategy, Outcome, so-far, Remembering, Remembered, Some-strategy-forces, Each-remembering-allows, Every-strategy-runs}
 use Rattle.atl.proofs.Attractor.{Inside, Obeys}
 use Rattle.atl.proofs.Steps.{Group-brings, Others-bring, Brought, brought, stays, step-into, some-step, reply-step}
 
@@ -42,6 +41,10 @@ Comes m Can A false G = Each-remembering-allows m A G
 Comes m Despite A true G = Each-remembering-allows m A G
 Comes m Despite A false G = Some-strategy-forces m A G
 
+-- a choice at q that obeys: where the power answers a for I, all its replies lead where I is a
+abbrev pub Serves : Structure → Power → Bool → (A q : ℕ) → (I : ℕ → Bool) → ℕ → Type 0
+Serves m hold a A q I c = Choice m A q c × (hold q I ≡ a → Every-reply m A q I a c)
+
 module _ (m : Structure) (L : Limits m) (A : ℕ) where
   -- the runs of a strategy stay among the states
   pub inside : (f : ℕ → ℕ) (q : ℕ) (ρ : Run) → q < m .states → Strategy m A f → Outcome m A f q ρ → Inside (m .states) ρ
@@ -49,17 +52,13 @@ module _ (m : Structure) (L : Limits m) (A : ℕ) where
   inside f q ρ l s o (suc i) = let b = inside f q ρ l s o i in stays m L A (ρ i) b (f (ρ i)) (ρ (suc i)) (s (ρ i) b) (o .steps i)
 
   module _ (hold : Power) (a : Bool) (T : ℕ → ℕ → Bool) where
-    -- a choice that obeys at q
-    abbrev pub Serves : ℕ → ℕ → Type 0
-    Serves q c = Choice m A q c × (hold q (T q) ≡ a → Every-reply m A q (T q) a c)
-
-    pub serves-obeys : (f : ℕ → ℕ) → ((p : ℕ) → p < m .states → Serves p (f p)) → (q : ℕ) (ρ : Run) → Inside (m .states) ρ → Outcome m A f q ρ → Obeys hold a T ρ
+    pub serves-obeys : (f : ℕ → ℕ) → ((p : ℕ) → p < m .states → Serves m hold a A p (T p) (f p)) → (q : ℕ) (ρ : Run) → Inside (m .states) ρ → Outcome m A f q ρ → Obeys hold a T ρ
     serves-obeys f s q ρ b o i e = step-into m L A (ρ i) (b i) (T (ρ i)) a (f (ρ i)) (ρ (suc i)) (s (ρ i) (b i) .1 e) (o .steps i)
 
     module _ (G : Goal) (q : ℕ) (l : q < m .states) (meets : (ρ : Run) → ρ 0 ≡ q → Inside (m .states) ρ → Obeys hold a T ρ → G ρ) where
       forced : ((p : ℕ) → p < m .states → hold p (T p) ≡ a → Group-brings m A p (T p) a) → Some-strategy-forces m A G q
       forced bring =
-          let f = chosen (m .states) Serves (λ p b. ⊎-elim
+          let f = chosen (m .states) (λ p. Serves m hold a A p (T p)) (λ p b. ⊎-elim
           (λ e. let g = bring p b e in (g .0, (g .1, λ e. g .2)))
           (λ ne. let c = divided m A p L b .some-choice in (c .0, (c .1, λ e. absurd (ne e))))
           (same-or-not (hold p (T p)) a)) in
@@ -107,3 +106,8 @@ module _ (m : Structure) (L : Limits m) (A : ℕ) where
   comes Can false T G q l meets = allowed (holds m Can A) false T G q l meets (λ p b e. subst (Brought m Can A p (T p)) e (brought m L A p b Can (T p)))
   comes Despite true T G q l meets = allowed (holds m Despite A) true T G q l meets (λ p b e. subst (Brought m Despite A p (T p)) e (brought m L A p b Despite (T p)))
   comes Despite false T G q l meets = forced (holds m Despite A) false T G q l meets (λ p b e. subst (Brought m Despite A p (T p)) e (brought m L A p b Despite (T p)))
+
+pub strategy-runs : Every-strategy-runs
+strategy-runs m L A q l F rem =
+    let r = comes m L A Can false (λ q t. false) (λ ρ. Unit {0}) q l (λ ρ e b f. tt) F rem in
+    (r .0, r .1)

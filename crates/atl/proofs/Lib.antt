@@ -3,3 +3,7 @@ pub mod Attractor
 pub mod Dual
 pub mod Steps
 pub mod Bringing
+pub mod Settle
+pub mod Right
+pub mod Plays
+pub mod Binding

@@ -1,6 +1,6 @@
 -- Rounds that mark something are at most as many as the states.
-use mathlib.Core.Bool.{Bool, true, false, cond, not, _&&_}
-use mathlib.Core.Path.{_≡_, refl}
+use mathlib.Core.Bool.{Bool, true, false, cond, not, _&&_, _||_}
+use mathlib.Core.Path.{_≡_, refl, ap, _∙_}
 use Prim.Native.Nat.{ℕ, zero, suc, _+_, _<_, _≤_, zero-le}
 use native.Mathlib.Omega.{arith}
 use Rattle.std.proofs.shelf.Tests.{both-ways, eqb-false, true≢false}
@@ -9,15 +9,18 @@ use Rattle.atl.specs.declared.Kind.{Kind}
 use Rattle.atl.specs.declared.Kind.the-variants.{Label, Not, Or, Strategic}
 use Rattle.atl.specs.declared.Temporal.the-variants.{Next, Until, Unless}
 use Rattle.atl.specs.declared.Mark.{Mark}
-use Rattle.atl.specs.declared.Mark.the-variants.{Open, Yes, No}
-use Rattle.atl.specs.Rounds.{is-open, until-marks, unless-marks, marks, tally, newly, settles, Power, holds}
+use Rattle.atl.specs.Rounds.{is-open, labelled, once, until-marks, unless-marks, marks, tally, newly, settles, Power, holds}
 
--- a state that has a mark keeps one
+-- a state that has a mark keeps it
 abbrev pub Lasting : (ℕ → ℕ → Mark) → Type 0
-Lasting M = (k q : ℕ) → is-open (M k q) ≡ false → is-open (M (suc k) q) ≡ false
+Lasting M = (k q : ℕ) → is-open (M k q) ≡ false → M (suc k) q ≡ M k q
 
-kept : (x y : Mark) (b : Bool) → is-open x ≡ false → is-open (cond (is-open x && b) y x) ≡ false
-kept x y b e = rw e e
+kept : (x y : Mark) (b : Bool) → is-open x ≡ false → cond (is-open x && b) y x ≡ x
+kept x y b e = rw e
+
+once-lasting : (b : ℕ → Bool) → Lasting (λ k q. once (b q) k)
+once-lasting b zero q e = absurd (true≢false e)
+once-lasting b (suc k) q e = refl
 
 until-lasting : (hold : Power) (R S : ℕ → Bool) → Lasting (until-marks hold R S)
 until-lasting hold R S zero q e = absurd (true≢false e)
@@ -26,6 +29,14 @@ until-lasting hold R S (suc k) q e = kept (until-marks hold R S (suc k) q) _ _ e
 unless-lasting : (hold : Power) (R S : ℕ → Bool) → Lasting (unless-marks hold R S)
 unless-lasting hold R S zero q e = absurd (true≢false e)
 unless-lasting hold R S (suc k) q e = kept (unless-marks hold R S (suc k) q) _ _ e
+
+pub lasting : (m : Structure) (f : Kind) (A l : ℕ) (R S : ℕ → Bool) → Lasting (marks m f A l R S)
+lasting m Label A l R S = once-lasting (labelled m l)
+lasting m Not A l R S = once-lasting (λ q. not (R q))
+lasting m Or A l R S = once-lasting (λ q. R q || S q)
+lasting m (Strategic w Next) A l R S = once-lasting (λ q. holds m w A q R)
+lasting m (Strategic w Until) A l R S = until-lasting (holds m w A) R S
+lasting m (Strategic w Unless) A l R S = unless-lasting (holds m w A) R S
 
 abbrev marked : (ℕ → ℕ → Mark) → ℕ → ℕ → Bool
 marked M k q = not (is-open (M k q))
@@ -38,10 +49,10 @@ tally-le p (suc n) = go (p n) (tally-le p n)
     go true h = omega arith
     go false h = omega arith
 
-module _ (M : ℕ → ℕ → Mark) (lasting : Lasting M) where
+module _ (M : ℕ → ℕ → Mark) (lasts : Lasting M) where
   tally-newly : (k n : ℕ) → tally (marked M (suc k)) n ≡ tally (newly M k) n + tally (marked M k) n
   tally-newly k zero = refl
-  tally-newly k (suc n) = go (is-open (M k n)) (is-open (M (suc k) n)) (lasting k n) (tally-newly k n)
+  tally-newly k (suc n) = go (is-open (M k n)) (is-open (M (suc k) n)) (λ e. ap is-open (lasts k n e) ∙ e) (tally-newly k n)
     where
       go : (b c : Bool) → (b ≡ false → c ≡ false) → tally (marked M (suc k)) n ≡ tally (newly M k) n + tally (marked M k) n
           → cond (not c) 1 0 + tally (marked M (suc k)) n ≡ (cond (b && not c) 1 0 + tally (newly M k) n) + (cond (not b) 1 0 + tally (marked M k) n)
@@ -69,5 +80,5 @@ module _ (m : Structure) (A l : ℕ) (R S : ℕ → Bool) (n k : ℕ) where
   quiet-comes Not busy = at-once (settles n Not (marks m Not A l R S)) n k (λ j. refl) busy
   quiet-comes Or busy = at-once (settles n Or (marks m Or A l R S)) n k (λ j. refl) busy
   quiet-comes (Strategic w Next) busy = at-once (settles n (Strategic w Next) (marks m (Strategic w Next) A l R S)) n k (λ j. refl) busy
-  quiet-comes (Strategic w Until) busy = few (until-marks (holds m w A) R S) (until-lasting (holds m w A) R S) n k (λ j b. eqb-false _ 0 (busy (suc j) (omega arith) (omega arith)))
-  quiet-comes (Strategic w Unless) busy = few (unless-marks (holds m w A) R S) (unless-lasting (holds m w A) R S) n k (λ j b. eqb-false _ 0 (busy (suc j) (omega arith) (omega arith)))
+  quiet-comes (Strategic w Until) busy = few (until-marks (holds m w A) R S) (lasting m (Strategic w Until) A l R S) n k (λ j b. eqb-false _ 0 (busy (suc j) (omega arith) (omega arith)))
+  quiet-comes (Strategic w Unless) busy = few (unless-marks (holds m w A) R S) (lasting m (Strategic w Unless) A l R S) n k (λ j b. eqb-false _ 0 (busy (suc j) (omega arith) (omega arith)))

@@ -1,16 +1,15 @@
 -- What the power of a group says of one step.
-use mathlib.Core.Bool.{Bool, true, false, not}
-use mathlib.Core.Logic.{_⊎_, inl, inr, ⊎-elim}
+use mathlib.Core.Bool.{Bool, true, false}
+use mathlib.Core.Logic.{⊎-elim}
 use mathlib.Core.Path.{_≡_, refl, sym, ap, subst, _∙_}
-use Prim.Native.Nat.{ℕ, suc, _+_, _<_}
-use Rattle.std.proofs.shelf.Tests.{both-ways, true≢false, false≢true}
+use Prim.Native.Nat.{ℕ, _<_}
+use Rattle.std.proofs.shelf.Tests.{both-ways, cases-order}
 use Rattle.std.specs.Options.{isSome}
 use Rattle.std.specs.declared.option.Option.{Option}
 use Rattle.std.specs.declared.option.Option.the-variants.{Some, None}
-use Rattle.game.specs.Structure.{Structure, Limits, Choice, Reply}
-use Rattle.game.specs.Divided.{Divided}
+use Rattle.game.specs.Structure.{Structure, Limits, Choice}
 use Rattle.game.specs.Serving.{first-serving, all-answered}
-use Rattle.game.specs.Reading.{Leads, Every-reply, Some-reply, Serving, Answering}
+use Rattle.game.specs.Reading.{Every-reply, Some-reply, Serving, Answering}
 use Rattle.game.proofs.Division.{divided}
 use Rattle.game.proofs.Reading.{reads-serving, reads-answering}
 use Rattle.atl.specs.declared.Modality.{Modality}
@@ -100,6 +99,26 @@ module _ (m : Structure) (L : Limits m) (A q : ℕ) (in-m : q < m .states) where
   agree-at Despite X Y true false h k e = let t = meet Y X false true k h in sym (t .3) ∙ e (t .0) (t .1) ∙ t .2
   agree-at Despite X Y false true h k e = let t = meet X Y false true h k in sym (t .2) ∙ e (t .0) (t .1) ∙ t .3
   agree-at Despite X Y false false h k e = refl
+
+  -- a choice all of whose replies lead into X has none that leads out of Y, where the two agree on the states
+  clash : (X Y : ℕ → Bool) (c : ℕ) → ((t : ℕ) → t < m .states → X t ≡ Y t) → Choice m A q c → Every-reply m A q X true c → Some-reply m A q Y false c → ⊥
+  clash X Y c e h k o = let r = reply-step Y false c o in both-ways (Y (r .0)) (r .2) (sym (e (r .0) (stays c (r .0) h (r .1))) ∙ step-into X true c (r .0) k (r .1))
+
+  -- so the smallest choice that serves is the same for both
+  pub serving-local : (X Y : ℕ → Bool) → ((t : ℕ) → t < m .states → X t ≡ Y t) → first-serving m A q X ≡ first-serving m A q Y
+  serving-local X Y e = go (first-serving m A q X) (first-serving m A q Y) (reads-serving m A q X L in-m) (reads-serving m A q Y L in-m)
+    where
+      back : (t : ℕ) → t < m .states → Y t ≡ X t
+      back t l = sym (e t l)
+
+      go : (o p : Option ℕ) → Serving m A q X o → Serving m A q Y p → o ≡ p
+      go None None h k = refl
+      go None (Some d) h k = absurd (clash Y X d back (k .0) (k .1) (h d (k .0)))
+      go (Some c) None h k = absurd (clash X Y c e (h .0) (h .1) (k c (h .0)))
+      go (Some c) (Some d) h k = ⊎-elim
+          (λ i. ap Some i)
+          (⊎-elim (λ i. absurd (clash X Y c e (h .0) (h .1) (k .2 c (h .0) i))) (λ i. absurd (clash Y X d back (k .0) (k .1) (h .2 d (k .0) i))))
+          (cases-order c d)
 
 module _ (m : Structure) (L : Limits m) (w : Modality) (A : ℕ) where
   pub local : Local (m .states) (holds m w A)

@@ -3,4 +3,7 @@ pub mod Rounds
 pub mod Strategy
 pub mod Rules
 pub mod Verdict
+pub mod Settling
 pub mod Playbook
+pub mod Right
+pub mod Binding

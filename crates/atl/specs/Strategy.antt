@@ -4,7 +4,7 @@ use mathlib.Core.Logic.{_⊎_}
 use mathlib.Core.Path.{_≡_}
 use Prim.Native.Nat.{ℕ, zero, suc, _+_, _<_, _≤_}
 use Rattle.std.specs.declared.option.Option.the-variants.{Some}
-use Rattle.game.specs.Structure.{Structure, Choice, Reply}
+use Rattle.game.specs.Structure.{Structure, Limits, Choice, Reply}
 
 -- an endless run: its states, one after the other
 abbrev pub Run : Type 0
@@ -59,6 +59,9 @@ Meets-until-within k R S ρ = (i : ℕ) × (i ≤ k) × S (ρ i) × ((j : ℕ) �
 abbrev pub Meets-unless : Set → Set → Goal
 Meets-unless R S ρ = (i : ℕ) → R (ρ i) ⊎ (S (ρ i) ⊎ ((j : ℕ) × (j < i) × S (ρ j)))
 
+abbrev pub Misses : Goal → Goal
+Misses G ρ = G ρ → ⊥
+
 -- some strategy of the group has only outcomes from q that meet the goal
 abbrev pub Some-strategy-forces : Structure → (A : ℕ) → Goal → Set
 Some-strategy-forces m A G q = (f : ℕ → ℕ) × Strategy m A f × ((ρ : Run) → Outcome m A f q ρ → G ρ)
@@ -72,3 +75,7 @@ Each-strategy-allows m A G q = (f : ℕ → ℕ) → Strategy m A f → (ρ : Ru
 
 abbrev pub Each-remembering-allows : Structure → (A : ℕ) → Goal → Set
 Each-remembering-allows m A G q = (F : List ℕ → ℕ) → Remembering m A F → (ρ : Run) × Remembered m A F q ρ × G ρ
+
+-- no strategy comes to a halt: from each state it has an outcome
+abbrev pub Every-strategy-runs : Type 0
+Every-strategy-runs = (m : Structure) → Limits m → (A q : ℕ) → q < m .states → (F : List ℕ → ℕ) → Remembering m A F → (ρ : Run) × Remembered m A F q ρ

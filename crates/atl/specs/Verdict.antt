@@ -7,9 +7,15 @@ use Rattle.atl.specs.declared.Kind.{Kind}
 use Rattle.atl.specs.declared.Kind.the-variants.{Label, Not, Or, Strategic}
 use Rattle.atl.specs.declared.Temporal.the-variants.{Next, Until, Unless}
 use Rattle.atl.specs.declared.Mark.{Mark}
+use Rattle.atl.specs.declared.Mark.the-variants.{Open, Yes, No}
 use Rattle.atl.specs.Rounds.{is-yes, marks, settles, closed}
 use Rattle.atl.specs.Rules.{Formula}
 use Rattle.atl.specs.Rules.Formula.{label, neg, or, next, until, unless}
+
+abbrev pub is-no : Mark → Bool
+is-no Open = false
+is-no (Yes n) = false
+is-no (No n) = true
 
 -- A rule of kind f with the group A and the label l; R and S are the yes states of its parts.
 module _ (m : Structure) (f : Kind) (A l : ℕ) (R S : ℕ → Bool) where
@@ -24,6 +30,10 @@ module _ (m : Structure) (f : Kind) (A l : ℕ) (R S : ℕ → Bool) where
   abbrev pub yes : ℕ → ℕ → Bool
   yes k q = is-yes (final k q)
 
+  abbrev pub no : ℕ → ℕ → Bool
+  no k q = is-no (final k q)
+
+-- in place of a part that a rule lacks
 abbrev pub nowhere : ℕ → Bool
 nowhere q = false
 

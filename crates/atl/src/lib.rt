@@ -1,7 +1,13 @@
 // What rules are, and what their rounds mark.
 ghost use mathlib.Core.Path.{_≡_};
+ghost use Prim.Native.Nat.{_+_};
 ghost use Rattle.atl.specs.Kinds.{kind-of};
 ghost use Rattle.atl.specs.Rounds.{shown as shownAs};
+ghost use Rattle.atl.specs.Strategy.{Every-strategy-runs};
+ghost use Rattle.atl.specs.Playbook.{Every-first-move};
+ghost use Rattle.atl.specs.Settling.{Enough, Every-rule-settles};
+ghost use Rattle.atl.specs.Right.{Every-rule-right, Every-mark-right, Every-can-right, Every-despite-right, Every-playbook-right, Every-verdict-right};
+ghost use Rattle.atl.specs.Binding.{Binding-right};
 
 // Who a strategic rule speaks for: what the group can bring about, or what can happen despite it.
 #[derive(Clone, Copy, PartialEq, Eq, Debug)]
@@ -87,4 +93,28 @@ impl Mark {
             },
         }
     }
+}
+
+fn one_more(count: u16) -> u32
+    ensures { λ r. ⌜ r ≡ count + 1 ⌝ }
+{
+    count as u32 + 1
+}
+
+// How many rounds settle any rule of a game with so many states. What the marks of a settled rule mean is proved here too.
+pub fn rounds_enough(states: u16) -> u32
+    ensures count { λ r. ⌜ r ≡ states + 1 ⌝ }
+    ensures enough { λ r. ⌜ Enough states r ⌝ }
+    ensures settling { λ _. ⌜ Every-rule-settles ⌝ }
+    ensures rules { λ _. ⌜ Every-rule-right ⌝ }
+    ensures marks { λ _. ⌜ Every-mark-right ⌝ }
+    ensures can { λ _. ⌜ Every-can-right ⌝ }
+    ensures despite { λ _. ⌜ Every-despite-right ⌝ }
+    ensures runs { λ _. ⌜ Every-strategy-runs ⌝ }
+    ensures firsts { λ _. ⌜ Every-first-move ⌝ }
+    ensures playbooks { λ _. ⌜ Every-playbook-right ⌝ }
+    ensures verdicts { λ _. ⌜ Every-verdict-right ⌝ }
+    ensures binding { λ _. ⌜ Binding-right ⌝ }
+{
+    one_more(states)
 }

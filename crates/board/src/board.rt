@@ -39,8 +39,7 @@ impl<G: Game> Board<G> {
         ensures game { λ _. ⌜ now (self .exit) .game ≡ now (self .entry) .game ⌝ }
         ensures does { λ a. ⌜ Does (G·Game .meaning (now (self .entry) .game)) (write-answer (G·Game .meaning (now (self .entry) .game)) kind group r s) (write-after (G·Game .meaning (now (self .entry) .game)) kind group r s) (now (self .entry) .table) (now (self .exit) .table) a ⌝ }
     {
-        let players = self.game.players();
-        self.table.write(players, kind, group, r, s)
+        self.table.write(&self.game, kind, group, r, s)
     }
 
     // Takes the highest rule away and answers its number.
@@ -56,18 +55,14 @@ impl<G: Game> Board<G> {
         ensures game { λ _. ⌜ now (self .exit) .game ≡ now (self .entry) .game ⌝ }
         ensures does { λ a. ⌜ Does (G·Game .meaning (now (self .entry) .game)) (round-answer (G·Game .meaning (now (self .entry) .game)) rule) (round-after (G·Game .meaning (now (self .entry) .game)) rule) (now (self .entry) .table) (now (self .exit) .table) a ⌝ }
     {
-        match self.table.due(rule) {
-            Ok((r, s)) => Ok(self.table.step(&self.game, rule, r, s)),
-            Err(refusal) => Err(refusal),
-        }
+        self.table.round(&self.game, rule)
     }
 
     // What a rule says of a state: the verdict, and its number.
     pub fn ask(&self, rule: u8, state: u8) -> Result<Shown, Refusal>
         ensures { λ a. ⌜ Answers (G·Game .meaning (now (self .entry) .game)) (ask-answer (G·Game .meaning (now (self .entry) .game)) rule state) (now (self .entry) .table) a ⌝ }
     {
-        let (states, _) = self.game.states();
-        self.table.ask(states, rule, state)
+        self.table.ask(&self.game, rule, state)
     }
 
     // The rounds that a rule has had, and whether it is settled.
@@ -76,12 +71,5 @@ impl<G: Game> Board<G> {
         ensures few { λ a. ⌜ Few-rounds (G·Game .meaning (now (self .entry) .game)) (now (self .entry) .table) a ⌝ }
     {
         self.table.tell(rule)
-    }
-
-    // The game that the board holds.
-    pub fn game(&self) -> &G
-        ensures { λ g. ⌜ now g ≡ now (self .entry) .game ⌝ }
-    {
-        &self.game
     }
 }

@@ -4,10 +4,11 @@ ghost use mathlib.Core.Bool.{Bool, true, false, cond, not, _&&_, _||_};
 ghost use Prim.Native.Nat.{ℕ, _+_, _-_, _^_, _<_, _≤_};
 ghost use lib.Dec.{leb, ltb, eqb};
 ghost use lib.ListN.{length, getD, set};
+ghost use Rattle.game.specs.Structure.{Structure};
 ghost use Rattle.atl.specs.declared.Mark.the-variants.{Open};
 ghost use Rattle.board.specs.Parts.{uses-r, uses-s, has-group, bad-group, bad-part, waits};
-ghost use Rattle.board.specs.Answers.{below, taken, number-if};
-ghost use Rattle.board.specs.Shows.{rule-at};
+ghost use Rattle.board.specs.Answers.{below, taken, number-if, write-answer, write-after, erase-answer, erase-after, round-answer, round-after, ask-answer, tell-answer};
+ghost use Rattle.board.specs.Shows.{rule-at, Does, Answers, Few-rounds};
 ghost use Rattle.board.specs.Steps.{rounds-in, is-settled, ask-table, tell-table, fresh-rule, Wrote, erase-table, Erased, settled-in, due-table, Yes-array, Stepped};
 use crate::rule::rounds;
 use crate::rule::settled;
@@ -99,7 +100,7 @@ impl Table {
         }
     }
 
-    pub(crate) fn ask(&self, states: u16, rule: u8, state: u8) -> Result<Shown, Refusal>
+    fn read(&self, states: u16, rule: u8, state: u8) -> Result<Shown, Refusal>
         ensures { λ a. ⌜ a ≡ ask-table states (now (self .entry)) rule state ⌝ }
     {
         if rule >= self.count {
@@ -111,7 +112,7 @@ impl Table {
         Ok(self.rules[rule as usize].marks[state as usize].shown())
     }
 
-    pub(crate) fn tell(&self, rule: u8) -> Result<(u16, bool), Refusal>
+    fn progress(&self, rule: u8) -> Result<(u16, bool), Refusal>
         ensures { λ a. ⌜ a ≡ tell-table (now (self .entry)) rule ⌝ }
     {
         if rule >= self.count {
@@ -121,14 +122,7 @@ impl Table {
         Ok((rounds(condition), settled(condition)))
     }
 
-    pub(crate) fn write(
-        &mut self,
-        players: u8,
-        kind: u8,
-        group: u8,
-        r: u8,
-        s: u8,
-    ) -> Result<u8, Refusal>
+    fn enter(&mut self, players: u8, kind: u8, group: u8, r: u8, s: u8) -> Result<u8, Refusal>
         requires { ⌜ players ≤ 6 ⌝ }
         ensures answer { λ a. ⌜ a ≡ number-if (now (self .entry) .count) (taken players (now (self .entry) .count) kind group r s) ⌝ }
         ensures table { λ _. ⌜ Wrote (now (self .entry)) (now (self .exit)) group r s (taken players (now (self .entry) .count) kind group r s) ⌝ }
@@ -151,7 +145,7 @@ impl Table {
         number
     }
 
-    pub(crate) fn erase(&mut self) -> Result<u8, Refusal>
+    fn pop(&mut self) -> Result<u8, Refusal>
         ensures answer { λ a. ⌜ a ≡ erase-table (now (self .entry) .count) ⌝ }
         ensures table { λ a. ⌜ Erased (now (self .entry)) (now (self .exit)) a ⌝ }
     {
@@ -178,7 +172,7 @@ impl Table {
     }
 
     // The parts of a rule whose round is due, or why it is not.
-    pub(crate) fn due(&self, rule: u8) -> Result<(u8, u8), Refusal>
+    fn due(&self, rule: u8) -> Result<(u8, u8), Refusal>
         ensures { λ a. ⌜ a ≡ due-table (now (self .entry)) rule ⌝ }
     {
         if rule >= self.count {
@@ -209,12 +203,56 @@ impl Table {
     }
 
     // A round of one rule, over its parts r and s.
-    pub(crate) fn step<G: Game>(&mut self, game: &G, rule: u8, r: u8, s: u8) -> u16
+    fn step<G: Game>(&mut self, game: &G, rule: u8, r: u8, s: u8) -> u16
         requires { ⌜ rule < 32 ⌝ ∗ ⌜ r ≡ rule-at (now self .rules) rule .r ⌝ ∗ ⌜ s ≡ rule-at (now self .rules) rule .s ⌝ }
         ensures { λ c. ⌜ (length (now (self .entry) .rules) ≡ 32 → Stepped (G·Game .meaning (now (game .entry))) (now (self .entry)) (now (self .exit)) rule c) ⌝ }
     {
         let yes_r = self.yes_states(r);
         let yes_s = self.yes_states(s);
         self.rules[rule as usize].round(game, yes_r, yes_s)
+    }
+
+    // The calls, over any game whose rules these are.
+    pub(crate) fn write<G: Game>(
+        &mut self,
+        game: &G,
+        kind: u8,
+        group: u8,
+        r: u8,
+        s: u8,
+    ) -> Result<u8, Refusal>
+        ensures { λ a. ⌜ Does (G·Game .meaning (now (game .entry))) (write-answer (G·Game .meaning (now (game .entry))) kind group r s) (write-after (G·Game .meaning (now (game .entry))) kind group r s) (now (self .entry)) (now (self .exit)) a ⌝ }
+    {
+        let players = game.players();
+        self.enter(players, kind, group, r, s)
+    }
+
+    pub(crate) fn erase(&mut self) -> Result<u8, Refusal>
+        ensures { λ a. ⌜ ((m : Structure) → Does m erase-answer erase-after (now (self .entry)) (now (self .exit)) a) ⌝ }
+    {
+        self.pop()
+    }
+
+    pub(crate) fn round<G: Game>(&mut self, game: &G, rule: u8) -> Result<u16, Refusal>
+        ensures { λ a. ⌜ Does (G·Game .meaning (now (game .entry))) (round-answer (G·Game .meaning (now (game .entry))) rule) (round-after (G·Game .meaning (now (game .entry))) rule) (now (self .entry)) (now (self .exit)) a ⌝ }
+    {
+        match self.due(rule) {
+            Ok((r, s)) => Ok(self.step(game, rule, r, s)),
+            Err(refusal) => Err(refusal),
+        }
+    }
+
+    pub(crate) fn ask<G: Game>(&self, game: &G, rule: u8, state: u8) -> Result<Shown, Refusal>
+        ensures { λ a. ⌜ Answers (G·Game .meaning (now (game .entry))) (ask-answer (G·Game .meaning (now (game .entry))) rule state) (now (self .entry)) a ⌝ }
+    {
+        let (states, _) = game.states();
+        self.read(states, rule, state)
+    }
+
+    pub(crate) fn tell(&self, rule: u8) -> Result<(u16, bool), Refusal>
+        ensures answer { λ a. ⌜ ((m : Structure) → Answers m (tell-answer m rule) (now (self .entry)) a) ⌝ }
+        ensures few { λ a. ⌜ ((m : Structure) → Few-rounds m (now (self .entry)) a) ⌝ }
+    {
+        self.progress(rule)
     }
 }

@@ -12,7 +12,7 @@ use game::is_under;
 use refusal::Refusal;
 
 // The drill of a limit: the tries are states 0 to the limit, then come answered and given up.
-#[derive(Clone, Copy)]
+#[derive(Drop)]
 pub struct Drill {
     limit: u8,
     ghost ok: { (1 ≤ limit) × (limit ≤ 253) },

@@ -7,3 +7,4 @@ pub mod Highest
 pub mod Under
 pub mod Tested
 pub mod Making
+pub mod Bounding

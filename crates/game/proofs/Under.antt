@@ -4,29 +4,22 @@ use mathlib.Core.Path.{_≡_, refl, sym, ap, _∙_, subst}
 use Prim.Native.Nat.{ℕ, zero, suc, _+_, _-_, _/_, _%_, _<_, _≤_, min}
 use native.Mathlib.Omega.{arith}
 use lib.Dec.{eqb, leb}
-use Rattle.std.proofs.shelf.Tests.{and-left, and-right, and-from, and-parts, lt-leb, le-leb, leb-true, eqb-true, eq-eqb}
+use Rattle.std.proofs.shelf.Tests.{and-left, and-from, and-parts, le-leb, leb-true, eqb-true, eq-eqb}
 use Rattle.std.specs.Orderings.{Decides}
 use Rattle.game.specs.Lists.{highest, under}
 use Rattle.game.proofs.Walk.{Digits, highest-mod, highest-div}
 use Rattle.game.proofs.Members.{Digit, Box}
 
 -- as the loop goes
-pub under-low : (n h v : ℕ) → 0 < n → v % 16 < min 1 (h % 16) → under n h v ≡ false
+pub under-not : (n h v : ℕ) → 0 < n → (leb (min 1 (h % 16)) (v % 16) && leb (v % 16) (h % 16)) ≡ false → under n h v ≡ false
 unfolding under
-under-low zero h v l k = absurd (omega arith)
-under-low (suc n) h v l k = and-left _ _ (and-left _ _ (lt-leb (min 1 (h % 16)) (v % 16) k))
+under-not zero h v l k = absurd (omega arith)
+under-not (suc n) h v l k = and-left _ _ k
 
-pub under-high : (n h v : ℕ) → 0 < n → h % 16 < v % 16 → under n h v ≡ false
+pub under-more : (n h v : ℕ) → 0 < n → (leb (min 1 (h % 16)) (v % 16) && leb (v % 16) (h % 16)) ≡ true → under n h v ≡ under (n - 1) (h / 16) (v / 16)
 unfolding under
-under-high zero h v l k = absurd (omega arith)
-under-high (suc n) h v l k = and-left _ _ (and-right (leb (min 1 (h % 16)) (v % 16)) _ (lt-leb (v % 16) (h % 16) k))
-
-pub under-more : (n h v : ℕ) → 0 < n → min 1 (h % 16) ≤ v % 16 → v % 16 ≤ h % 16 → under n h v ≡ under (n - 1) (h / 16) (v / 16)
-unfolding under
-under-more zero h v l i j = absurd (omega arith)
-under-more (suc n) h v l i j =
-    let e : suc n - 1 ≡ n = omega arith in
-    ap (λ b. b && under n (h / 16) (v / 16)) (and-from (leb (min 1 (h % 16)) (v % 16)) (leb (v % 16) (h % 16)) (le-leb _ _ i) (le-leb _ _ j)) ∙ rw e refl
+under-more zero h v l i = absurd (omega arith)
+under-more (suc n) h v l i = let e : suc n - 1 ≡ n = omega arith in ap (λ b. b && under n (h / 16) (v / 16)) i ∙ rw e refl
 
 pub under-none : (n h v : ℕ) → n ≡ 0 → under n h v ≡ eqb v 0
 unfolding under

@@ -4,3 +4,4 @@ pub mod Divided
 pub mod Serving
 pub mod Reading
 pub mod Made
+pub mod Bound

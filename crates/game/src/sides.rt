@@ -1,7 +1,8 @@
 // The two sides of a state: what a group chooses, and what the others reply.
 ghost use mathlib.Core.Path.{_≡_};
-ghost use mathlib.Core.Bool.{Bool, true, false, cond};
-ghost use Prim.Native.Nat.{ℕ, _+_, _-_, _*_, _/_, _%_, _^_, _<_, _≤_};
+ghost use mathlib.Core.Bool.{Bool, true, false, cond, _&&_};
+ghost use Prim.Native.Nat.{ℕ, _+_, _-_, _*_, _/_, _%_, _^_, _<_, _≤_, min};
+ghost use lib.Dec.{leb, ltb};
 ghost use Rattle.std.specs.Orderings.{Decides};
 ghost use Rattle.game.specs.Structure.{Vector, Choice};
 ghost use Rattle.game.specs.Lists.{member, own, other, highest, under};
@@ -53,6 +54,13 @@ impl Sides {
     }
 }
 
+// Whether a digit is 0 where the limit is 0, and from 1 to the limit elsewhere.
+fn allows(limit: u32, digit: u32) -> bool
+    ensures { λ r. ⌜ r ≡ (leb (min 1 limit) digit && leb digit limit) ⌝ }
+{
+    limit.min(1) <= digit && digit <= limit
+}
+
 // Whether the number has so many digits in base 16, each 0 where `most` has 0 and from 1 to that digit elsewhere.
 pub fn is_under(players: u8, most: u32, number: u32) -> bool
     ensures { λ r. ⌜ r ≡ under players most number ⌝ }
@@ -60,9 +68,7 @@ pub fn is_under(players: u8, most: u32, number: u32) -> bool
     let mut limits = most;
     let mut rest = number;
     for _ in 0..players {
-        let limit = limits % 16;
-        let digit = rest % 16;
-        if digit < limit.min(1) || limit < digit {
+        if !allows(limits % 16, rest % 16) {
             return false;
         }
         limits /= 16;
@@ -71,20 +77,26 @@ pub fn is_under(players: u8, most: u32, number: u32) -> bool
     rest == 0
 }
 
-// Whether the number is a vector of the state.
+// Whether the state is there and the number under the highest of one of its sides.
+fn admits<G: Game>(game: &G, state: u8, most: u32, number: u32) -> bool
+    ensures { λ r. ⌜ r ≡ (ltb state (G·Game .meaning (now (game .entry)) .states) && under (G·Game .meaning (now (game .entry)) .players) most number) ⌝ }
+{
+    let (states, _) = game.states();
+    (state as u16) < states && is_under(game.players(), most, number)
+}
+
+// Whether the number is a vector of the state: nobody's replies are the vectors.
 pub fn is_vector<G: Game>(game: &G, state: u8, number: u32) -> bool
     ensures { λ r. ⌜ Decides r (Vector (G·Game .meaning (now (game .entry))) state number) ⌝ }
 {
-    let (states, _) = game.states();
     let sides = Sides::at(game, state, 0);
-    (state as u16) < states && is_under(sides.players, sides.reply, number)
+    admits(game, state, sides.reply, number)
 }
 
 // Whether the number is a choice of the group at the state.
 pub fn is_choice<G: Game>(game: &G, state: u8, group: u8, number: u32) -> bool
     ensures { λ r. ⌜ Decides r ((state < G·Game .meaning (now (game .entry)) .states) × Choice (G·Game .meaning (now (game .entry))) group state number) ⌝ }
 {
-    let (states, _) = game.states();
     let sides = Sides::at(game, state, group);
-    (state as u16) < states && is_under(sides.players, sides.choice, number)
+    admits(game, state, sides.choice, number)
 }

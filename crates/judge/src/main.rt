@@ -1,5 +1,6 @@
 // Judges the resend drill of limit 1 and prints the listing.
 use atl::Shown;
+use atl::rounds_enough;
 use board::Board;
 use drill::Drill;
 use drill::DrillGame;
@@ -52,8 +53,12 @@ impl<T: Drop> From<Refused<T>> for Failure as RefusedFailure {
     }
 }
 
-fn marks<G: Game>(heap: Global, board: &Board<G>, rule: u8) -> Result<Vec<Shown>, Failure> {
-    let (states, _) = board.game().states();
+fn marks<G: Game>(
+    heap: Global,
+    board: &Board<G>,
+    states: u16,
+    rule: u8,
+) -> Result<Vec<Shown>, Failure> {
     let mut marks = Vec::new(heap);
     for state in 0..=u8::MAX {
         if u16::from(state) < states {
@@ -64,24 +69,41 @@ fn marks<G: Game>(heap: Global, board: &Board<G>, rule: u8) -> Result<Vec<Shown>
 }
 
 // Writes the rule and gives it as many rounds as any rule needs; those after it has settled are refused and change nothing.
-fn judged<G: Game>(heap: Global, board: &mut Board<G>, draft: Draft) -> Result<Row, Failure> {
+fn judged<G: Game>(
+    heap: Global,
+    board: &mut Board<G>,
+    states: u16,
+    draft: Draft,
+) -> Result<Row, Failure> {
     let rule = board.write(draft.kind, draft.group, draft.r, draft.s)?;
-    let (states, _) = board.game().states();
-    for _ in 0..=states {
+    for _ in 0..rounds_enough(states) {
         let _ = board.round(rule);
     }
     let (rounds, _) = board.tell(rule)?;
-    let marks = marks(heap, board, rule)?;
+    let marks = marks(heap, board, states, rule)?;
     Ok(Row { rounds, marks })
 }
 
-fn text<G: Game>(heap: Global, board: &mut Board<G>, drafts: &[Draft]) -> Result<String, Failure> {
+fn rows<G: Game>(
+    heap: Global,
+    board: &mut Board<G>,
+    states: u16,
+    drafts: &[Draft],
+) -> Result<Vec<Row>, Failure> {
     let mut rows = Vec::new(heap);
     for draft in drafts {
-        rows.push(judged(heap, board, *draft)?)?;
+        rows.push(judged(heap, board, states, *draft)?)?;
     }
-    let (states, start) = board.game().states();
-    let players = board.game().players();
+    Ok(rows)
+}
+
+fn text<G: Game + Drop>(heap: Global, game: G, drafts: &[Draft]) -> Result<String, Failure> {
+    let players = game.players();
+    let (states, start) = game.states();
+    let mut board = Board::new(game);
+    let rows = rows(heap, &mut board, states, drafts);
+    let _game = board.close();
+    let rows = rows?;
     Ok(listing(heap, players, states, start, rows.as_slice())?)
 }
 
@@ -104,10 +126,7 @@ fn main(rt: LibcRuntime) -> Result<(), AnyError> {
         Draft::of(5, 1, 4, 5),
         Draft::of(5, 0, 4, 5),
     ];
-    let mut board = Board::new(drill);
-    let made = text(rt.alloc(), &mut board, &drafts);
-    let _drill = board.close();
-    match made {
+    match text(rt.alloc(), drill, &drafts) {
         Ok(listing) => Ok(rt.print(listing)?),
         Err(Failure::Declined(_)) => Err("a rule was refused".into()),
         Err(Failure::Memory) => Err("out of memory".into()),

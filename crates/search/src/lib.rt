@@ -2,7 +2,7 @@
 ghost use mathlib.Core.Path.{_≡_};
 ghost use Prim.Native.Nat.{ℕ, _+_, _-_, _*_, _/_, _%_, _^_, _<_, _≤_};
 ghost use Rattle.game.specs.Lists.{lowest as lowestOf, following as followingOf};
-ghost use Rattle.game.specs.Serving.{set-of, leads, first-serving, all-answered};
+ghost use Rattle.game.specs.Serving.{set-of, within, first-serving, all-answered};
 ghost use Rattle.game.specs.Reading.{Serving, Answering};
 use game::Game;
 use game::Sides;
@@ -35,13 +35,20 @@ fn following(players: u8, highest: u32, number: u32) -> Option<u32>
     }
 }
 
+// Whether the state is in the set.
+fn has(inside: &[bool; 256], state: u8) -> bool
+    ensures { λ r. ⌜ r ≡ set-of (now (inside .entry)) state ⌝ }
+{
+    inside[state as usize]
+}
+
 // Whether the reply to the choice leads to a state of the set.
 fn leads_in<G: Game>(game: &G, state: u8, choice: u32, reply: u32, inside: &[bool; 256]) -> bool
     requires { ⌜ choice < 2 ^ 24 ⌝ ∗ ⌜ reply < 2 ^ 24 ⌝ }
-    ensures { λ r. ⌜ r ≡ leads (G·Game .meaning (now (game .entry))) state (set-of (now (inside .entry))) choice reply ⌝ }
+    ensures { λ r. ⌜ r ≡ within (set-of (now (inside .entry))) (G·Game .meaning (now (game .entry)) .next state (choice + reply)) ⌝ }
 {
     match game.next(state, choice + reply) {
-        Some(t) => inside[t as usize],
+        Some(t) => has(inside, t),
         None => false,
     }
 }

@@ -36,6 +36,7 @@ choices-less g c =
     turned (own m (c .args .group) (c .args .state)) (own-digits m (c .args .group) (c .args .state) (g .G·Game .limits (c .args .game .now))) (c .at-sides .ensures .players) (c .at-sides .ensures .choice) (c .in-Some .is) (c .choices .inv .0) (c .following-choice .ensures) .less
 
 pub choices-again : need.choices-again
+unfolding leads
 choices-again g c =
     let m = g .G·Game .meaning (c .args .game .now) in
     let t = turned (own m (c .args .group) (c .args .state)) (own-digits m (c .args .group) (c .args .state) (g .G·Game .limits (c .args .game .now))) (c .at-sides .ensures .players) (c .at-sides .ensures .choice) (c .in-Some .is) (c .choices .inv .0) (c .following-choice .ensures) in
@@ -50,6 +51,7 @@ replies-less g c =
     turned (other m (c .args .group) (c .args .state)) (other-digits m (c .args .group) (c .args .state) (g .G·Game .limits (c .args .game .now))) (c .at-sides .ensures .players) (c .at-sides .ensures .reply) (c .in-Some-reply .is) (c .replies .inv .0) (c .following-reply .ensures) .less
 
 pub replies-again : need.replies-again
+unfolding leads
 replies-again g c =
     let m = g .G·Game .meaning (c .args .game .now) in
     let t = turned (other m (c .args .group) (c .args .state)) (other-digits m (c .args .group) (c .args .state) (g .G·Game .limits (c .args .game .now))) (c .at-sides .ensures .players) (c .at-sides .ensures .reply) (c .in-Some-reply .is) (c .replies .inv .0) (c .following-reply .ensures) in

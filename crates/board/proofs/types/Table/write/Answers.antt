@@ -1,22 +1,14 @@
-use mathlib.Core.Path.{_≡_, sym, ap, subst, _∙_}
-use native.Mathlib.Omega.{arith}
-use lib.ListN.{set}
-use Rattle.std.specs.declared.result.Result.the-variants.{Ok}
-use Rattle.board.specs.declared.types.Rule.{Rule}
-use Rattle.board.specs.Answers.{number-if}
+use mathlib.Core.Path.{_≡_, subst}
+use Prim.Native.Nat.{ℕ}
+use Rattle.board.specs.Answers.{taken, number-if}
 use Rattle.board.specs.Steps.{Wrote}
-use Rattle.board.proofs.Taking.{taken-tells}
+use Rattle.board.proofs.Calls.{does-write}
 use Rattle.board.proofs.types.Table.write.Needs as need
 
-pub push-requires : need.push-requires
-push-requires c κs =
-    let d = taken-tells (c .args .players) (c .args .self .now .count) (c .args .kind) (c .args .group) (c .args .r) (c .args .s) (c .in-Ok .kind) (sym (c .in-Ok .ensures tt)) in
-    omega (arith, d .room, c .args .self .now .ok)
-
-pub returns-in-Ok : need.returns-in-Ok
-returns-in-Ok c =
+pub returns : need.returns
+returns g c =
+    let m = g .G·Game .meaning (c .args .game .now) in
     let t = c .args .self .now in
-    record {
-      answer = ap Ok (c .push .ensures .answer) ∙ ap (number-if (t .count)) (c .in-Ok .ensures tt);
-      table = subst (λ x. Wrote t (c .push .last .self) (c .args .group) (c .args .r) (c .args .s) x) (c .in-Ok .ensures tt) (c .push .ensures .count, c .push .ensures .rules ∙ ap (λ (y : Rule). set (t .rules) (t .count) y) (c .fresh .ensures));
-    }
+    does-write m (g .G·Game .limits (c .args .game .now)) t (c .enter .last .self) (c .args .kind) (c .args .group) (c .args .r) (c .args .s) (c .enter .result)
+    (subst (λ (n : ℕ). c .enter .result ≡ number-if (t .count) (taken n (t .count) (c .args .kind) (c .args .group) (c .args .r) (c .args .s))) (c .players-players .ensures) (c .enter .ensures .answer))
+    (subst (λ (n : ℕ). Wrote t (c .enter .last .self) (c .args .group) (c .args .r) (c .args .s) (taken n (t .count) (c .args .kind) (c .args .group) (c .args .r) (c .args .s))) (c .players-players .ensures) (c .enter .ensures .table))
