@@ -148,13 +148,13 @@ tested t n parts h = ⊎-elim
 
 module _ (m : Structure) (t : Table) (st : Stack) (p : Shows m st t) where
   -- the rule n that stands
-  abbrev At : ℕ → Type 0
+  abbrev pub At : ℕ → Type 0
   At n = Found m (t .rules) st n
 
-  at : (n : ℕ) → ltb n (t .count) ≡ true → At n
+  pub at : (n : ℕ) → ltb n (t .count) ≡ true → At n
   at n e = find m (t .rules) st (p .rules) n (omega (arith, ltb-true n (t .count) e, p .count))
 
-  gone : (n : ℕ) → ltb n (t .count) ≡ false → found st n ≡ None
+  pub gone : (n : ℕ) → ltb n (t .count) ≡ false → found st n ≡ None
   gone n e = missing st n (omega (arith, ltb-false n (t .count) e, p .count))
 
   unsettled-first : (x : Standing) (below : Stack) → x .rounds ≡ 0 → settled-of m x (yes-states m below) ≡ false

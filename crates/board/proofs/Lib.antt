@@ -6,3 +6,5 @@ pub mod Stacks
 pub mod Advancing
 pub mod Rounding
 pub mod Calls
+pub mod Books
+pub mod Copying

@@ -1,19 +1,23 @@
 -- What each call answers, refusals with it, and what stands after it.
 use mathlib.Core.Bool.{Bool, true, false, cond}
-use mathlib.Core.List.{List, [], _∷_}
-use Prim.Native.Nat.{ℕ}
-use lib.Dec.{eqb, ltb}
-use lib.ListN.{length}
+use mathlib.Core.List.{List, [], _∷_, _++_}
+use Prim.Native.Nat.{ℕ, zero, suc, _+_, _*_, _/_, _%_, _^_}
+use lib.Dec.{eqb, ltb, leb}
+use lib.ListN.{length, take, drop}
 use Rattle.std.specs.declared.option.Option.{Option}
 use Rattle.std.specs.declared.option.Option.the-variants.{Some, None}
 use Rattle.std.specs.declared.result.Result.{Result}
 use Rattle.std.specs.declared.result.Result.the-variants.{Ok, Err}
 use Rattle.game.specs.Structure.{Structure}
 use Rattle.refusal.specs.declared.Refusal.{Refusal}
-use Rattle.refusal.specs.declared.Refusal.the-variants.{Full, NoKind, NoGroup, NoPart, NoRule, NoState, PartUnsettled, AlreadySettled}
+use Rattle.refusal.specs.declared.Refusal.the-variants.{Full, NoKind, NoGroup, NoPart, NoRule, NoState, PartUnsettled, AlreadySettled, NotSettled, NoPlaybook, NoRoom}
 use Rattle.atl.specs.declared.Kind.{Kind}
+use Rattle.atl.specs.declared.Kind.the-variants.{Label, Not, Or, Strategic}
+use Rattle.atl.specs.declared.Modality.the-variants.{Can, Despite}
+use Rattle.atl.specs.declared.Mark.{Mark}
 use Rattle.atl.specs.declared.Shown.{Shown}
 use Rattle.atl.specs.Kinds.{kind-of}
+use Rattle.atl.specs.Playbook.{playbook}
 use Rattle.atl.specs.Rounds.{newly, tally, shown}
 use Rattle.board.specs.Parts.{bad-group, bad-part, waits}
 use Rattle.board.specs.Standing.{Standing, Stack, found, marks-of, settled-of, mark-of, yes-states, settled, advanced}
@@ -97,3 +101,63 @@ module _ (m : Structure) where
 
   abbrev pub tell-answer : ℕ → Stack → Result (ℕ × Bool) Refusal
   tell-answer n st = tell-of (found st n)
+
+  -- The playbook of a settled can-rule.
+  abbrev pub book-as : Kind → (A : ℕ) → (M : ℕ → Mark) → (R S : ℕ → Bool) → Result (ℕ → ℕ) Refusal
+  book-as Label A M R S = Err NoPlaybook
+  book-as Not A M R S = Err NoPlaybook
+  book-as Or A M R S = Err NoPlaybook
+  book-as (Strategic Can o) A M R S = Ok (playbook m A M R S o)
+  book-as (Strategic Despite o) A M R S = Err NoPlaybook
+
+  abbrev pub book-of : Standing × Stack → Result (ℕ → ℕ) Refusal
+  book-of p =
+      cond (settled-of m (p .0) (yes-states m (p .1)))
+      (book-as (p .0 .kind) (p .0 .group) (mark-of m (p .0) (yes-states m (p .1))) (yes-states m (p .1) (p .0 .r)) (yes-states m (p .1) (p .0 .s)))
+      (Err NotSettled)
+
+  -- Play: the playbook's choice at a state.
+  abbrev pub choice-in : ℕ → Result (ℕ → ℕ) Refusal → Result ℕ Refusal
+  choice-in q (Ok book) = Ok (book q)
+  choice-in q (Err e) = Err e
+
+  abbrev pub play-of : Option (Standing × Stack) → ℕ → Result ℕ Refusal
+  play-of None q = Err NoRule
+  play-of (Some p) q = cond (ltb q (m .states)) (choice-in q (book-of p)) (Err NoState)
+
+  abbrev pub play-answer : (n q : ℕ) → Stack → Result ℕ Refusal
+  play-answer n q st = play-of (found st n) q
+
+  -- Copy: how many bytes it writes into a buffer of so many bytes, from the place on.
+  abbrev pub size-in : (place size : ℕ) → Result (ℕ → ℕ) Refusal → Result ℕ Refusal
+  size-in place size (Ok book) = cond (leb (place + 4 * m .states) size) (Ok (4 * m .states)) (Err NoRoom)
+  size-in place size (Err e) = Err e
+
+  abbrev pub copy-of : Option (Standing × Stack) → (place size : ℕ) → Result ℕ Refusal
+  copy-of None place size = Err NoRule
+  copy-of (Some p) place size = size-in place size (book-of p)
+
+  abbrev pub copy-answer : (n place size : ℕ) → Stack → Result ℕ Refusal
+  copy-answer n place size st = copy-of (found st n) place size
+
+-- a choice as four bytes, the highest first
+abbrev pub four-bytes : ℕ → List ℕ
+four-bytes c = (c / 2 ^ 24 % 256) ∷ ((c / 2 ^ 16 % 256) ∷ ((c / 2 ^ 8 % 256) ∷ ((c % 256) ∷ [])))
+
+-- the choices at the first n states
+abbrev pub book-bytes : (ℕ → ℕ) → ℕ → List ℕ
+book-bytes book zero = []
+book-bytes book (suc n) = book-bytes book n ++ four-bytes (book n)
+
+module _ (m : Structure) where
+  -- the buffer after it: the choices in order from the place on, all other bytes kept
+  abbrev pub written-in : (place : ℕ) → List ℕ → Result (ℕ → ℕ) Refusal → List ℕ
+  written-in place buffer (Ok book) = cond (leb (place + 4 * m .states) (length buffer)) (take place buffer ++ (book-bytes book (m .states) ++ drop (place + 4 * m .states) buffer)) buffer
+  written-in place buffer (Err e) = buffer
+
+  abbrev pub buffer-of : Option (Standing × Stack) → (place : ℕ) → List ℕ → List ℕ
+  buffer-of None place buffer = buffer
+  buffer-of (Some p) place buffer = written-in place buffer (book-of m p)
+
+  abbrev pub buffer-after : (n place : ℕ) → Stack → List ℕ → List ℕ
+  buffer-after n place st buffer = buffer-of (found st n) place buffer

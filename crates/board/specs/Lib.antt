@@ -3,3 +3,4 @@ pub mod Standing
 pub mod Answers
 pub mod Shows
 pub mod Steps
+pub mod Books

@@ -69,9 +69,12 @@ due-rule done y = cond (waits done (y .kind) (y .r) (y .s)) (Err PartUnsettled) 
 abbrev pub due-table : Table → ℕ → Result (ℕ × ℕ) Refusal
 due-table t n = cond (ltb n (t .count)) (due-rule (settled-in t) (rule-at (t .rules) n)) (Err NoRule)
 
--- the yes states of a rule that stands
+-- the yes states of a record, and of a rule that stands
+abbrev pub Yes-marks : Rule → List Bool → Type 0
+Yes-marks y ys = (q : ℕ) → q < 256 → set-of ys q ≡ is-yes (getD (y .marks) q Open)
+
 abbrev pub Yes-array : Table → ℕ → List Bool → Type 0
-Yes-array t n ys = n < t .count → (q : ℕ) → q < 256 → set-of ys q ≡ is-yes (getD (rule-at (t .rules) n .marks) q Open)
+Yes-array t n ys = n < t .count → Yes-marks (rule-at (t .rules) n) ys
 
 -- whether the mark puts a state into the set that the next round aims at
 abbrev pub aimed : Kind → Mark → Bool

@@ -1,7 +1,9 @@
 // The calls on a board.
 ghost use mathlib.Core.Path.{_≡_};
 ghost use Prim.Native.Nat.{ℕ};
-ghost use Rattle.board.specs.Answers.{nothing, write-answer, write-after, erase-answer, erase-after, round-answer, round-after, ask-answer, tell-answer};
+ghost use lib.ListN.{length};
+ghost use Rattle.board.specs.Answers.{nothing, write-answer, write-after, erase-answer, erase-after, round-answer, round-after, ask-answer, tell-answer, play-answer, copy-answer};
+ghost use Rattle.board.specs.Books.{Buffered, Kept-if-refused};
 ghost use Rattle.board.specs.Shows.{Shows, Does, Answers, Few-rounds};
 use crate::types::Table;
 use atl::Shown;
@@ -71,5 +73,21 @@ impl<G: Game> Board<G> {
         ensures few { λ a. ⌜ Few-rounds (G·Game .meaning (now (self .entry) .game)) (now (self .entry) .table) a ⌝ }
     {
         self.table.tell(rule)
+    }
+
+    // The choice of a settled can-rule's playbook at a state.
+    pub fn play(&self, rule: u8, state: u8) -> Result<u32, Refusal>
+        ensures { λ a. ⌜ Answers (G·Game .meaning (now (self .entry) .game)) (play-answer (G·Game .meaning (now (self .entry) .game)) rule state) (now (self .entry) .table) a ⌝ }
+    {
+        self.table.play(&self.game, rule, state)
+    }
+
+    // Writes a playbook into the buffer from the place on, four bytes a state, and answers how many bytes these are.
+    pub fn copy(&self, rule: u8, buffer: &mut [u8], place: usize) -> Result<usize, Refusal>
+        ensures answer { λ a. ⌜ Answers (G·Game .meaning (now (self .entry) .game)) (copy-answer (G·Game .meaning (now (self .entry) .game)) rule place (length (now (buffer .entry)))) (now (self .entry) .table) a ⌝ }
+        ensures buffer { λ _. ⌜ Buffered (G·Game .meaning (now (self .entry) .game)) (now (self .entry) .table) rule place (now (buffer .entry)) (now (buffer .exit)) ⌝ }
+        ensures refused { λ a. ⌜ Kept-if-refused a (now (buffer .entry)) (now (buffer .exit)) ⌝ }
+    {
+        self.table.copy(&self.game, rule, buffer, place)
     }
 }

@@ -9,7 +9,7 @@ ghost use Rattle.atl.specs.declared.Mark.the-variants.{Open};
 ghost use Rattle.atl.specs.Rounds.{holds as holdsFor, labelled as labelledAt, is-open, is-yes, one-round, closed as closedAs, once};
 ghost use Rattle.board.specs.Parts.{uses-r, uses-s, has-group};
 ghost use Rattle.board.specs.Shows.{condition-of};
-ghost use Rattle.board.specs.Steps.{rounds-in, is-settled, fresh-rule, aimed, Aim, proposal, new-mark, Passed, Closed, Worked};
+ghost use Rattle.board.specs.Steps.{rounds-in, is-settled, fresh-rule, Yes-marks, aimed, Aim, proposal, new-mark, Passed, Closed, Worked};
 use crate::types::Condition;
 use crate::types::Rule;
 use crate::types::Sets;
@@ -49,7 +49,7 @@ fn open(mark: Mark) -> bool
     }
 }
 
-pub(crate) fn yes(mark: Mark) -> bool
+fn yes(mark: Mark) -> bool
     ensures { λ r. ⌜ r ≡ is-yes mark ⌝ }
 {
     match mark {
@@ -59,7 +59,7 @@ pub(crate) fn yes(mark: Mark) -> bool
 }
 
 // Whether the state is in the set.
-fn has(set: &[bool; 256], state: u8) -> bool
+pub(crate) fn has(set: &[bool; 256], state: u8) -> bool
     ensures { λ r. ⌜ r ≡ set-of (now (set .entry)) state ⌝ }
 {
     set[state as usize]
@@ -136,6 +136,17 @@ impl Rule {
             marks: [Mark::Open; 256],
             condition: Condition::Fresh,
         }
+    }
+
+    // The states marked yes.
+    pub(crate) fn yes_states(&self) -> [bool; 256]
+        ensures { λ r. ⌜ Yes-marks (now (self .entry)) r ⌝ }
+    {
+        let mut states = [false; 256];
+        for state in 0..256usize {
+            states[state] = yes(self.marks[state]);
+        }
+        states
     }
 
     // The states that the next round of an until or an unless aims at: those marked yes, or those open.

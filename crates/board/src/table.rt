@@ -12,7 +12,6 @@ ghost use Rattle.board.specs.Shows.{rule-at, Does, Answers, Few-rounds};
 ghost use Rattle.board.specs.Steps.{rounds-in, is-settled, ask-table, tell-table, fresh-rule, Wrote, erase-table, Erased, settled-in, due-table, Yes-array, Stepped};
 use crate::rule::rounds;
 use crate::rule::settled;
-use crate::rule::yes;
 use crate::types::Rule;
 use crate::types::Table;
 use atl::Kind;
@@ -190,16 +189,14 @@ impl Table {
         Ok((r, s))
     }
 
-    fn yes_states(&self, rule: u8) -> [bool; 256]
+    pub(crate) fn yes_states(&self, rule: u8) -> [bool; 256]
         ensures { λ a. ⌜ Yes-array (now (self .entry)) rule a ⌝ }
     {
-        let mut states = [false; 256];
         if rule < self.count {
-            for state in 0..256usize {
-                states[state] = yes(self.rules[rule as usize].marks[state]);
-            }
+            self.rules[rule as usize].yes_states()
+        } else {
+            [false; 256]
         }
-        states
     }
 
     // A round of one rule, over its parts r and s.

@@ -1,7 +1,7 @@
 // The search for a choice that leads into a set of states, whatever the others reply, and its dual.
 ghost use mathlib.Core.Path.{_≡_};
 ghost use Prim.Native.Nat.{ℕ, _+_, _-_, _*_, _/_, _%_, _^_, _<_, _≤_};
-ghost use Rattle.game.specs.Lists.{lowest as lowestOf, following as followingOf};
+ghost use Rattle.game.specs.Lists.{own, highest as highestOf, lowest as lowestOf, following as followingOf};
 ghost use Rattle.game.specs.Serving.{set-of, within, first-serving, all-answered};
 ghost use Rattle.game.specs.Reading.{Serving, Answering};
 use game::Game;
@@ -74,6 +74,14 @@ pub fn serving<G: Game>(game: &G, state: u8, group: u8, inside: &[bool; 256]) ->
         break;
     }
     found
+}
+
+// The lowest choice of the group: each member plays move 1.
+pub fn first_choice<G: Game>(game: &G, state: u8, group: u8) -> u32
+    ensures { λ r. ⌜ r ≡ lowestOf (G·Game .meaning (now (game .entry)) .players) (highestOf (own (G·Game .meaning (now (game .entry))) group state) 0 (G·Game .meaning (now (game .entry)) .players)) ⌝ }
+{
+    let sides = Sides::at(game, state, group);
+    lowest(sides.players, sides.choice)
 }
 
 // Whether every choice of the group has a reply that leads into the set.
