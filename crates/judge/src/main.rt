@@ -1,134 +1,112 @@
-// Judges the resend drill of limit 1 and prints the listing.
-use atl::Shown;
-use atl::rounds_enough;
-use board::Board;
+// Judges a session book, or the resend drill, and prints the listing.
+mod report;
+
+use book::FiledBookGame;
+use book::UnreadBook;
+use book::read_rules;
 use drill::Drill;
 use drill::DrillGame;
-use game::Game;
-use listing::Row;
-use listing::listing;
-use refusal::Refusal;
+use listing::fault_line;
+use listing::no_game_line;
+use report::Report;
+use report::judged_by;
 use std::alloc::AllocError;
 use std::alloc::Global;
-use std::alloc::Refused;
+use std::env;
 use std::error::AnyError;
+use std::io;
+use std::io::Read;
 
-// A rule as it is written.
-#[derive(Clone, Copy)]
-struct Draft {
-    kind: u8,
-    group: u8,
-    r: u8,
-    s: u8,
+// One byte more than a book may have is enough to refuse it.
+const KEPT: u64 = 65536;
+
+const USAGE: &str = "usage: judge < BOOK\n       judge drill LIMIT < RULES\n";
+
+fn input(rt: &LibcRuntime) -> io::Result<Vec<u8>> {
+    let mut bytes = Vec::new(rt.alloc());
+    rt.stdin().take(KEPT).read_to_end(&mut bytes)?;
+    Ok(bytes)
 }
 
-impl Draft {
-    fn of(kind: u8, group: u8, r: u8, s: u8) -> Draft {
-        Draft { kind, group, r, s }
-    }
-}
-
-// Why a listing was not made.
-#[derive(Drop)]
-enum Failure {
-    Declined(Refusal),
-    Memory,
-}
-
-impl From<Refusal> for Failure as RefusalFailure {
-    fn from(refusal: Refusal) -> Failure {
-        Failure::Declined(refusal)
-    }
-}
-
-impl From<AllocError> for Failure as AllocFailure {
-    fn from(_error: AllocError) -> Failure {
-        Failure::Memory
-    }
-}
-
-impl<T: Drop> From<Refused<T>> for Failure as RefusedFailure {
-    fn from(_error: Refused<T>) -> Failure {
-        Failure::Memory
-    }
-}
-
-fn marks<G: Game>(
-    heap: Global,
-    board: &Board<G>,
-    states: u16,
-    rule: u8,
-) -> Result<Vec<Shown>, Failure> {
-    let mut marks = Vec::new(heap);
-    for state in 0..=u8::MAX {
-        if u16::from(state) < states {
-            marks.push(board.ask(rule, state)?)?;
+fn judge_book(heap: Global, bytes: &[u8]) -> Result<Report, AllocError> {
+    let unread = UnreadBook { bytes };
+    match unread.read() {
+        Ok(book) => {
+            let rules = book.rules();
+            judged_by(heap, book, rules)
         }
+        Err(fault) => Ok(Report {
+            text: fault_line(heap, fault)?,
+            judged: false,
+        }),
     }
-    Ok(marks)
 }
 
-// Writes the rule and gives it as many rounds as any rule needs; those after it has settled are refused and change nothing.
-fn judged<G: Game>(
-    heap: Global,
-    board: &mut Board<G>,
-    states: u16,
-    draft: Draft,
-) -> Result<Row, Failure> {
-    let rule = board.write(draft.kind, draft.group, draft.r, draft.s)?;
-    for _ in 0..rounds_enough(states) {
-        let _ = board.round(rule);
+fn judge_drill(heap: Global, limit: u8, bytes: &[u8]) -> Result<Report, AllocError> {
+    let drill = match Drill::new(limit) {
+        Ok(drill) => drill,
+        Err(refusal) => {
+            return Ok(Report {
+                text: no_game_line(heap, refusal)?,
+                judged: false,
+            });
+        }
+    };
+    match read_rules(bytes) {
+        Ok(rules) => judged_by(heap, drill, rules),
+        Err(fault) => Ok(Report {
+            text: fault_line(heap, fault)?,
+            judged: false,
+        }),
     }
-    let (rounds, _) = board.tell(rule)?;
-    let marks = marks(heap, board, states, rule)?;
-    Ok(Row { rounds, marks })
 }
 
-fn rows<G: Game>(
-    heap: Global,
-    board: &mut Board<G>,
-    states: u16,
-    drafts: &[Draft],
-) -> Result<Vec<Row>, Failure> {
-    let mut rows = Vec::new(heap);
-    for draft in drafts {
-        rows.push(judged(heap, board, states, *draft)?)?;
+// A limit as it is written; one that no byte holds is as far out of range as 0.
+fn limit(word: &str) -> Option<u8> {
+    match word.parse::<u64>() {
+        Ok(number) => Some(u8::try_from(number).unwrap_or(0)),
+        Err(_) => None,
     }
-    Ok(rows)
 }
 
-fn text<G: Game + Drop>(heap: Global, game: G, drafts: &[Draft]) -> Result<String, Failure> {
-    let players = game.players();
-    let (states, start) = game.states();
-    let mut board = Board::new(game);
-    let rows = rows(heap, &mut board, states, drafts);
-    let _game = board.close();
-    let rows = rows?;
-    Ok(listing(heap, players, states, start, rows.as_slice())?)
+enum Order {
+    Book,
+    Drill(u8),
+    Unknown,
+}
+
+fn ordered(rt: &LibcRuntime) -> io::Result<Order> {
+    let mut words = env::args(rt)?;
+    let _program = words.next();
+    let Some(first) = words.next() else {
+        return Ok(Order::Book);
+    };
+    let Some(second) = words.next() else {
+        return Ok(Order::Unknown);
+    };
+    if first.as_str() != "drill" || words.next().is_some() {
+        return Ok(Order::Unknown);
+    }
+    match limit(second.as_str()) {
+        Some(limit) => Ok(Order::Drill(limit)),
+        None => Ok(Order::Unknown),
+    }
 }
 
 fn main(rt: LibcRuntime) -> Result<(), AnyError> {
-    let Ok(drill) = Drill::new(1) else {
-        return Err("no such drill".into());
+    let heap = rt.alloc();
+    let made = match ordered(&rt)? {
+        Order::Book => judge_book(heap, input(&rt)?.as_slice())?,
+        Order::Drill(limit) => judge_drill(heap, limit, input(&rt)?.as_slice())?,
+        Order::Unknown => {
+            rt.eprint(USAGE)?;
+            return Err("usage".into());
+        }
     };
-    let drafts = [
-        Draft::of(0, 0, 8, 0),
-        Draft::of(1, 0, 0, 0),
-        Draft::of(2, 0, 0, 1),
-        Draft::of(0, 0, 0, 0),
-        Draft::of(1, 0, 3, 0),
-        Draft::of(1, 0, 2, 0),
-        Draft::of(4, 3, 2, 0),
-        Draft::of(4, 1, 2, 0),
-        Draft::of(4, 0, 2, 0),
-        Draft::of(7, 0, 2, 0),
-        Draft::of(7, 1, 2, 0),
-        Draft::of(5, 1, 4, 5),
-        Draft::of(5, 0, 4, 5),
-    ];
-    match text(rt.alloc(), drill, &drafts) {
-        Ok(listing) => Ok(rt.print(listing)?),
-        Err(Failure::Declined(_)) => Err("a rule was refused".into()),
-        Err(Failure::Memory) => Err("out of memory".into()),
+    rt.print(made.text.as_str())?;
+    if made.judged {
+        Ok(())
+    } else {
+        Err("not judged".into())
     }
 }

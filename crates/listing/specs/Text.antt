@@ -47,3 +47,11 @@ listing-text players states start rows = game-text players states start ++ rows-
 -- the first rule that was refused, and the refusal's number
 abbrev pub refused-text : (rule number : ℕ) → List ℕ
 refused-text rule number = codes "refused " ++ (decimal rule ++ (codes " " ++ (decimal number ++ codes "\n")))
+
+-- a game that was refused, by the refusal's number
+abbrev pub no-game-text : (number : ℕ) → List ℕ
+no-game-text number = codes "refused " ++ (decimal number ++ codes "\n")
+
+-- a faulty book: the cause's number, the byte and the layer's word
+abbrev pub fault-text : (cause byte : ℕ) → (layer : List ℕ) → List ℕ
+fault-text cause byte layer = codes "fault " ++ (decimal cause ++ (codes " " ++ (decimal byte ++ (codes " " ++ (layer ++ codes "\n")))))

@@ -7,9 +7,13 @@ ghost use lib.ListN.{length};
 ghost use Rattle.std.specs.Of.String.{string-bytes};
 ghost use Rattle.std.specs.Results.{isOk, Cases};
 ghost use Rattle.std.specs.Vec.{made};
-ghost use Rattle.listing.specs.Text.{letter as letterOf, number-text, mark-text, marks-text, rule-text, game-text, refused-text, listing-text};
+ghost use Rattle.refusal.specs.Numbers.{number-of};
+ghost use Rattle.book.specs.Faults.{number-of as cause-number, word-of};
+ghost use Rattle.listing.specs.Text.{letter as letterOf, number-text, mark-text, marks-text, rule-text, game-text, refused-text, no-game-text, fault-text, listing-text};
 use atl::Shown;
 use atl::Verdict;
+use book::Fault;
+use refusal::Refusal;
 use std::alloc::AllocError;
 use std::alloc::Global;
 
@@ -69,10 +73,29 @@ pub fn rule_line(
 }
 
 // The line of a rule that was refused.
-pub fn refused_line(heap: Global, rule: u8, number: u8) -> Result<String, AllocError>
-    ensures { λ r. ⌜ made r (λ s. string-bytes s ≡ refused-text rule number) ⌝ }
+pub fn refused_line(heap: Global, rule: usize, refusal: Refusal) -> Result<String, AllocError>
+    ensures { λ r. ⌜ made r (λ s. string-bytes s ≡ refused-text rule (number-of refusal)) ⌝ }
 {
+    let number = refusal.number();
     format!(heap, "refused {rule} {number}\n")
+}
+
+// The line of a game that was refused.
+pub fn no_game_line(heap: Global, refusal: Refusal) -> Result<String, AllocError>
+    ensures { λ r. ⌜ made r (λ s. string-bytes s ≡ no-game-text (number-of refusal)) ⌝ }
+{
+    let number = refusal.number();
+    format!(heap, "refused {number}\n")
+}
+
+// The line of a faulty book.
+pub fn fault_line(heap: Global, fault: Fault) -> Result<String, AllocError>
+    ensures { λ r. ⌜ made r (λ s. string-bytes s ≡ fault-text (cause-number (fault .cause)) (fault .byte) (word-of (fault .layer))) ⌝ }
+{
+    let cause = fault.cause.number();
+    let byte = fault.byte;
+    let layer = fault.layer.word();
+    format!(heap, "fault {cause} {byte} {layer}\n")
 }
 
 // The whole listing: the game, then a line for each rule, counted from 0.

@@ -1,0 +1,13 @@
+pub mod Judging
+pub mod States
+pub mod Walks
+pub mod Books
+pub mod Packed
+pub mod Places
+pub mod Encoded
+pub mod Accepted
+pub mod Decoded
+pub mod Unique
+pub mod Telling
+pub mod Meaning
+pub mod Verdict

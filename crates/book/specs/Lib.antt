@@ -1,0 +1,12 @@
+pub mod Faults
+pub mod Tests
+pub mod Fields
+pub mod Records
+pub mod Layout
+pub mod Content
+pub mod Told
+pub mod Filed
+pub mod Limited
+pub mod Described
+pub mod Readers
+pub mod Reading

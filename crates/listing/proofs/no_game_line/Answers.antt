@@ -1,0 +1,9 @@
+use mathlib.Core.Path.{_≡_, subst}
+use Prim.Native.Nat.{ℕ}
+use Rattle.std.specs.Of.String.{string-bytes}
+use Rattle.std.specs.Vec.{made}
+use Rattle.listing.specs.Text.{no-game-text}
+use Rattle.listing.proofs.no_game_line.Needs as need
+
+pub returns : need.returns
+returns c = subst (λ (n : ℕ). made (c .format .result) (λ s. string-bytes s ≡ no-game-text n)) (c .number-number .ensures) (c .format .ensures .made)
