@@ -8,12 +8,14 @@ mod tests {
     use atl::VerdictDebug;
     use atl::VerdictPartialEq;
     use board::Board;
+    use book::UnreadBook;
     use drill::Drill;
     use drill::DrillGame;
     use game::Game;
     use game::is_choice;
     use game::is_vector;
     use refusal::Refusal;
+    use std::alloc::Global;
     use std::test::*;
 
     fn drill(limit: u8) -> Result<Drill, Fail> {
@@ -135,6 +137,60 @@ mod tests {
                 verdict: Verdict::Yes,
                 number: 0,
             }),
+        )
+    }
+
+    // A book of one state and six players who have four moves each, but the first, who has `first`.
+    fn crowded(heap: Global, first: u8, vectors: u16) -> Result<Vec<u8>, Fail> {
+        let mut bytes = Vec::new(heap);
+        bytes.extend_from_slice(b"\x01\x00\x03\x06\x00\x00\x02")?;
+        bytes.extend_from_slice(&(vectors.saturating_add(8)).to_be_bytes())?;
+        bytes.extend_from_slice(b"\x00\x00")?;
+        bytes.push(first)?;
+        bytes.extend_from_slice(b"\x04\x04\x04\x04\x04")?;
+        for _ in 0..vectors {
+            bytes.push(0)?;
+        }
+        Ok(bytes)
+    }
+
+    // The number of the fault and its byte, or 0 and 0 where the book was taken.
+    fn faulty(bytes: &[u8]) -> (u8, usize) {
+        let unread = UnreadBook { bytes };
+        match unread.read() {
+            Ok(_) => (0, 0),
+            Err(fault) => (fault.cause.number(), fault.byte),
+        }
+    }
+
+    #[test]
+    fn product_of_the_counts(rt: LibcRuntime) -> Result<(), Fail> {
+        let most = crowded(rt.alloc(), 4, 4096)?;
+        check_eq(faulty(most.as_slice()), (0, 0))?;
+        let more = crowded(rt.alloc(), 5, 5120)?;
+        check_eq(faulty(more.as_slice()), (19, 11))?;
+        let count = crowded(rt.alloc(), 16, 4096)?;
+        check_eq(faulty(count.as_slice()), (19, 11))?;
+        let short = crowded(rt.alloc(), 4, 4095)?;
+        check_eq(faulty(short.as_slice()), (18, 6))
+    }
+
+    #[test]
+    fn faults_in_order() -> Result<(), Fail> {
+        check_eq(faulty(b""), (15, 0))?;
+        check_eq(faulty(b"\x01\x00"), (16, 0))?;
+        check_eq(faulty(b"\x02\x00\x01\x01"), (17, 0))?;
+        check_eq(faulty(b"\x01\x00\x02\x01\x00"), (18, 0))?;
+        check_eq(faulty(b"\x01\x00\x03\x07\x00\x00"), (19, 3))?;
+        check_eq(faulty(b"\x01\x00\x03\x01\x00\x01"), (19, 5))?;
+        check_eq(faulty(b"\x01\x00\x03\x01\x00\x00"), (15, 6))?;
+        check_eq(
+            faulty(b"\x01\x00\x03\x01\x00\x00\x02\x00\x04\x00\x00\x01\x01"),
+            (19, 12),
+        )?;
+        check_eq(
+            faulty(b"\x01\x00\x03\x01\x00\x00\x02\x00\x04\x00\x00\x01\x00\x03"),
+            (16, 13),
         )
     }
 }
