@@ -1,4 +1,4 @@
-// Judges a session book, or the resend drill, and prints the listing.
+// Judges a session book, or the resend drill, and prints the listing or a playbook.
 mod report;
 
 use book::FiledBookGame;
@@ -9,18 +9,29 @@ use drill::DrillGame;
 use listing::fault_line;
 use listing::no_game_line;
 use report::Report;
-use report::judged_by;
+use report::list;
+use report::playbook;
 use std::alloc::AllocError;
 use std::alloc::Global;
 use std::env;
 use std::error::AnyError;
 use std::io;
 use std::io::Read;
+use std::io::Write;
 
 // One byte more than a book may have is enough to refuse it.
 const KEPT: u64 = 65536;
 
-const USAGE: &str = "usage: judge < BOOK\n       judge drill LIMIT < RULES\n";
+const USAGE: &str =
+    "usage: judge < BOOK\n       judge drill LIMIT < RULES\n       judge playbook RULE < BOOK\n";
+
+// What the arguments ask for.
+enum Order {
+    List,
+    Drill(u8),
+    Playbook(usize),
+    Unknown,
+}
 
 fn input(rt: &LibcRuntime) -> io::Result<Vec<u8>> {
     let mut bytes = Vec::new(rt.alloc());
@@ -28,85 +39,75 @@ fn input(rt: &LibcRuntime) -> io::Result<Vec<u8>> {
     Ok(bytes)
 }
 
-fn judge_book(heap: Global, bytes: &[u8]) -> Result<Report, AllocError> {
+fn judge_book(heap: Global, bytes: &[u8], rule: Option<usize>) -> Result<Report, AllocError> {
     let unread = UnreadBook { bytes };
     match unread.read() {
-        Ok(book) => {
-            let rules = book.rules();
-            judged_by(heap, book, rules)
+        Ok(filed) => {
+            let rules = filed.rules();
+            match rule {
+                Some(rule) => playbook(heap, filed, rules, rule),
+                None => list(heap, filed, rules),
+            }
         }
-        Err(fault) => Ok(Report {
-            text: fault_line(heap, fault)?,
-            judged: false,
-        }),
+        Err(fault) => Ok(Report::Declined(fault_line(heap, fault)?)),
     }
 }
 
 fn judge_drill(heap: Global, limit: u8, bytes: &[u8]) -> Result<Report, AllocError> {
     let drill = match Drill::new(limit) {
         Ok(drill) => drill,
-        Err(refusal) => {
-            return Ok(Report {
-                text: no_game_line(heap, refusal)?,
-                judged: false,
-            });
-        }
+        Err(refusal) => return Ok(Report::Declined(no_game_line(heap, refusal)?)),
     };
     match read_rules(bytes) {
-        Ok(rules) => judged_by(heap, drill, rules),
-        Err(fault) => Ok(Report {
-            text: fault_line(heap, fault)?,
-            judged: false,
-        }),
+        Ok(rules) => list(heap, drill, rules),
+        Err(fault) => Ok(Report::Declined(fault_line(heap, fault)?)),
     }
 }
 
-// A limit as it is written; one that no byte holds is as far out of range as 0.
-fn limit(word: &str) -> Option<u8> {
-    match word.parse::<u64>() {
-        Ok(number) => Some(u8::try_from(number).unwrap_or(0)),
-        Err(_) => None,
+fn asked_for(word: &str, number: &str) -> Order {
+    let Ok(number) = number.parse::<usize>() else {
+        return Order::Unknown;
+    };
+    match word {
+        // A limit that no byte holds is as far out of range as 0.
+        "drill" => Order::Drill(u8::try_from(number).unwrap_or(0)),
+        "playbook" => Order::Playbook(number),
+        _ => Order::Unknown,
     }
 }
 
-enum Order {
-    Book,
-    Drill(u8),
-    Unknown,
-}
-
-fn ordered(rt: &LibcRuntime) -> io::Result<Order> {
+fn order_of(rt: &LibcRuntime) -> io::Result<Order> {
     let mut words = env::args(rt)?;
     let _program = words.next();
-    let Some(first) = words.next() else {
-        return Ok(Order::Book);
+    let Some(word) = words.next() else {
+        return Ok(Order::List);
     };
-    let Some(second) = words.next() else {
+    let Some(number) = words.next() else {
         return Ok(Order::Unknown);
     };
-    if first.as_str() != "drill" || words.next().is_some() {
+    if words.next().is_some() {
         return Ok(Order::Unknown);
     }
-    match limit(second.as_str()) {
-        Some(limit) => Ok(Order::Drill(limit)),
-        None => Ok(Order::Unknown),
-    }
+    Ok(asked_for(word.as_str(), number.as_str()))
 }
 
 fn main(rt: LibcRuntime) -> Result<(), AnyError> {
     let heap = rt.alloc();
-    let made = match ordered(&rt)? {
-        Order::Book => judge_book(heap, input(&rt)?.as_slice())?,
+    let report = match order_of(&rt)? {
+        Order::List => judge_book(heap, input(&rt)?.as_slice(), None)?,
         Order::Drill(limit) => judge_drill(heap, limit, input(&rt)?.as_slice())?,
+        Order::Playbook(rule) => judge_book(heap, input(&rt)?.as_slice(), Some(rule))?,
         Order::Unknown => {
             rt.eprint(USAGE)?;
             return Err("usage".into());
         }
     };
-    rt.print(made.text.as_str())?;
-    if made.judged {
-        Ok(())
-    } else {
-        Err("not judged".into())
+    match report {
+        Report::Listing(text) => Ok(rt.print(text.as_str())?),
+        Report::Playbook(bytes) => Ok(rt.stdout().write_all(bytes.as_slice())?),
+        Report::Declined(line) => {
+            rt.print(line.as_str())?;
+            Err("declined".into())
+        }
     }
 }

@@ -1,0 +1,9 @@
+// Any list of calls on a board.
+mod answered;
+mod list;
+mod types;
+
+pub use list::call;
+pub use list::perform;
+pub use types::Answer;
+pub use types::Call;
