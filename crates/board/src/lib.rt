@@ -4,6 +4,7 @@ ghost use Prim.Native.Nat.{ℕ};
 ghost use lib.ListN.{length};
 ghost use Rattle.table.specs.Answers.{nothing, write-answer, write-after, erase-answer, erase-after, round-answer, round-after, ask-answer, tell-answer, play-answer, copy-answer};
 ghost use Rattle.table.specs.Books.{Buffered, Kept-if-refused};
+ghost use Rattle.board.specs.Truth.{True-of};
 ghost use Rattle.table.specs.Shows.{Shows, Does, Answers, Few-rounds};
 use atl::Shown;
 use game::Game;
@@ -62,7 +63,8 @@ impl<G: Game> Board<G> {
 
     // What a rule says of a state: the verdict, and its number.
     pub fn ask(&self, rule: u8, state: u8) -> Result<Shown, Refusal>
-        ensures { λ a. ⌜ Answers (G·Game .meaning (now (self .entry) .game)) (ask-answer (G·Game .meaning (now (self .entry) .game)) rule state) (now (self .entry) .table) a ⌝ }
+        ensures answer { λ a. ⌜ Answers (G·Game .meaning (now (self .entry) .game)) (ask-answer (G·Game .meaning (now (self .entry) .game)) rule state) (now (self .entry) .table) a ⌝ }
+        ensures truth { λ _. ⌜ True-of (G·Game .meaning (now (self .entry) .game)) (now (self .entry) .table) rule ⌝ }
     {
         self.table.ask(&self.game, rule, state)
     }
@@ -77,7 +79,8 @@ impl<G: Game> Board<G> {
 
     // The choice of a settled can-rule's playbook at a state.
     pub fn play(&self, rule: u8, state: u8) -> Result<u32, Refusal>
-        ensures { λ a. ⌜ Answers (G·Game .meaning (now (self .entry) .game)) (play-answer (G·Game .meaning (now (self .entry) .game)) rule state) (now (self .entry) .table) a ⌝ }
+        ensures answer { λ a. ⌜ Answers (G·Game .meaning (now (self .entry) .game)) (play-answer (G·Game .meaning (now (self .entry) .game)) rule state) (now (self .entry) .table) a ⌝ }
+        ensures truth { λ _. ⌜ True-of (G·Game .meaning (now (self .entry) .game)) (now (self .entry) .table) rule ⌝ }
     {
         self.table.play(&self.game, rule, state)
     }
@@ -87,6 +90,7 @@ impl<G: Game> Board<G> {
         ensures answer { λ a. ⌜ Answers (G·Game .meaning (now (self .entry) .game)) (copy-answer (G·Game .meaning (now (self .entry) .game)) rule place (length (now (buffer .entry)))) (now (self .entry) .table) a ⌝ }
         ensures buffer { λ _. ⌜ Buffered (G·Game .meaning (now (self .entry) .game)) (now (self .entry) .table) rule place (now (buffer .entry)) (now (buffer .exit)) ⌝ }
         ensures refused { λ a. ⌜ Kept-if-refused a (now (buffer .entry)) (now (buffer .exit)) ⌝ }
+        ensures truth { λ _. ⌜ True-of (G·Game .meaning (now (self .entry) .game)) (now (self .entry) .table) rule ⌝ }
     {
         self.table.copy(&self.game, rule, buffer, place)
     }

@@ -29,9 +29,9 @@ use Rattle.calls.specs.declared.types.Answer.the-variants.{Refused, Number, Ma
 use Rattle.calls.specs.Histories.{given, answer, left-in, accepted, put, effect, after, written, round-more, becomes, Event, History, stack, stands, Answered, then}
 use Rattle.calls.specs.Law.{the-rule, Settled-law, Law}
 use Rattle.calls.proofs.Possible.{kind-taken, Possible, possible}
-use Rattle.calls.proofs.Knowing.{Here, here, few-of}
-use Rattle.calls.proofs.Asking.{rule-means}
-use Rattle.calls.proofs.Books.{has-book, books}
+use Rattle.board.proofs.Knowing.{Here, here, few-of}
+use Rattle.board.proofs.Playing.{settled-right}
+use Rattle.calls.proofs.Books.{bound-same}
 
 -- What stands, by its number.
 abbrev at : Stack → ℕ → Option Standing
@@ -145,10 +145,8 @@ law m L h a = record {
       let w = at-n n x low is in
       let d = sym (w .settled-is) ∙ e in
       record {
-        says = w .says;
-        verdicts = rule-means m L (stack h) n x low is w d;
-        has-book = λ o k. has-book m L (stack h) n low o x k is w d;
-        books = λ o k. books m L (stack h) n low o x k is w d;
+        right = let p = possible m L h a in settled-right m L (p .rules) (stack h) (p .right) n x low is e;
+        binding = λ o k. bound-same m L (stack h) n low o x k is w d;
       };
 }
   where

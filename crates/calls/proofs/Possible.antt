@@ -3,20 +3,20 @@ use mathlib.Core.Path.{_≡_, refl, sym, ap, subst, _∙_}
 use mathlib.Core.Bool.{Bool, true, false, cond}
 use mathlib.Core.List.{List, [], _∷_, map}
 use mathlib.Core.Logic.{_⊎_, inl, inr, ⊎-elim}
-use Prim.Native.Nat.{ℕ, zero, suc, _+_, _<_, _≤_}
+use Prim.Native.Nat.{ℕ, _<_, _≤_}
 use native.Mathlib.Omega.{arith}
 use lib.ListN.{length, set, replicate, length-set, length-replicate}
 use lib.Seq.{getD-set-same}
 use Rattle.std.specs.Iters.{counting}
 use Rattle.std.proofs.shelf.Counted.{length-map-counting, getD-map-counting}
-use Rattle.std.proofs.shelf.Tests.{cases-lt, cases-eq}
+use Rattle.std.proofs.shelf.Tests.{cases-lt}
 use Rattle.std.specs.declared.option.Option.{Option}
 use Rattle.std.specs.declared.option.Option.the-variants.{Some, None}
 use Rattle.std.specs.declared.result.Result.{Result}
 use Rattle.std.specs.declared.result.Result.the-variants.{Ok, Err}
 use Rattle.game.specs.Structure.{Structure, Limits}
 use Rattle.refusal.specs.declared.Refusal.{Refusal}
-use Rattle.refusal.specs.declared.Refusal.the-variants.{Full, NoKind, NoGroup, NoPart, PartUnsettled, AlreadySettled}
+use Rattle.refusal.specs.declared.Refusal.the-variants.{Full, NoGroup, NoPart, PartUnsettled, AlreadySettled}
 use Rattle.atl.specs.declared.Kind.{Kind}
 use Rattle.atl.specs.declared.Mark.the-variants.{Open}
 use Rattle.atl.specs.Kinds.{kind-of}
@@ -27,13 +27,14 @@ use Rattle.table.specs.Standing.{Standing, Stack, found, marks-of, settled-of, 
 use Rattle.table.specs.Answers.{below, taken-as, taken, number-if, fresh, pushed-if, write-after, erase-after, round-of, round-answer, advanced-if, round-after, erase-answer}
 use Rattle.table.specs.Shows.{blank, rule-at, condition-of, Right, Orderly, All-right}
 use Rattle.table.proofs.Taking.{taken-tells, past, err-ok}
-use Rattle.table.proofs.Stacks.{top, under, length-advanced}
+use Rattle.table.proofs.Stacks.{length-advanced}
 use Rattle.table.proofs.Advancing.{untouched, advance}
 use Rattle.calls.specs.declared.types.Call.{Call}
 use Rattle.calls.specs.declared.types.Call.the-variants.{Write, Round, Erase, Ask, Tell, Play, Copy}
 use Rattle.calls.specs.declared.types.Answer.{Answer}
 use Rattle.calls.specs.declared.types.Answer.the-variants.{Number, Marked}
-use Rattle.calls.specs.Histories.{given, answer, accepted, put, effect, after, Event, History, stack, Answered}
+use Rattle.calls.specs.Histories.{given, answer, put, after, History, stack, Answered}
+use Rattle.board.proofs.Knowing.{here}
 
 -- Each call leaves what the board says.
 abbrev pub next : Structure → Call → Stack → Stack
@@ -148,33 +149,18 @@ module _ (m : Structure) (L : Limits m) where
   popped-possible [] p = p
   popped-possible (x ∷ low) p = record { rules = p .rules; long = p .long; most = omega (arith, p .most); right = p .right .2 }
 
-  -- the rule n of a stack, with what is known of it
-  orderly-at : (rules : List Rule) (st : Stack) → All-right m rules st → (n : ℕ) (x : Standing) (low : Stack) → found st n ≡ Some (x, low) → (n < length st) × (settled m st n ≡ settled-of m x (yes-states m low)) × Orderly m low x
-  orderly-at rules [] a n x low e = absurd (let z : _≡_ {A = ℕ} 0 1 = cc in omega arith)
-  orderly-at rules (y ∷ ys) a n x low e = ⊎-elim
-      (λ (i : n ≡ length ys).
-      let same : (y, ys) ≡ (x, low) = some-some (sym (top ys n _ _ i) ∙ e) in
-      subst (λ (z : Standing × Stack). (n < length (y ∷ ys)) × (settled m (y ∷ ys) n ≡ settled-of m (z .0) (yes-states m (z .1))) × Orderly m (z .1) (z .0)) same (omega arith, top ys n _ _ i, a .0))
-      (λ (i : n ≡ length ys → ⊥).
-      let b = orderly-at rules ys (a .2) n x low (sym (under ys n _ _ i) ∙ e) in
-      (omega (arith, b .0), under ys n _ _ i ∙ b .1, b .2))
-      (cases-eq n (length ys))
-    where
-      some-some : {a b : Standing × Stack} → _≡_ {A = Option (Standing × Stack)} (Some a) (Some b) → a ≡ b
-      some-some h = cc
-
   advanced-possible : (st : Stack) → Possible m st → (n c : ℕ) (o : Option (Standing × Stack)) → found st n ≡ o → round-of m o ≡ Ok c → Possible m (advanced n st)
   advanced-possible st p n c None i e = err-ok e
   advanced-possible st p n c (Some (x, low)) i e =
       let d = due m x low c e in
-      let b = orderly-at (p .rules) st (p .right) n x low i in
+      let b = here m L (p .rules) st (p .right) n x low i in
       let y = ideal m L low (one-more x) 256 refl in
       record {
         rules = set (p .rules) n (y .0);
         long = rw length-set (p .long);
         most = omega (arith, length-advanced n st, p .most);
-        right = advance m (p .rules) n (y .0) (omega (arith, p .long, p .most, b .0)) st (p .right) (b .1 ∙ d .unsettled)
-            (λ z s j. subst (λ (w : Standing × Stack). Orderly m (w .1) (one-more (w .0)) × Right m (w .1) (one-more (w .0)) (y .0)) (some-some (sym i ∙ j)) (orderly-next m low x (b .2) d, y .1));
+        right = advance m (p .rules) n (y .0) (omega (arith, p .long, p .most, b .up)) st (p .right) (b .settled-is ∙ d .unsettled)
+            (λ z s j. subst (λ (w : Standing × Stack). Orderly m (w .1) (one-more (w .0)) × Right m (w .1) (one-more (w .0)) (y .0)) (some-some (sym i ∙ j)) (orderly-next m low x (b .orderly) d, y .1));
       }
     where
       some-some : {a b : Standing × Stack} → _≡_ {A = Option (Standing × Stack)} (Some a) (Some b) → a ≡ b

@@ -1,7 +1,10 @@
 // One call after another.
 ghost use mathlib.Core.Path.{_≡_};
-ghost use Rattle.std.specs.Of.Vec.{vec-items};
-ghost use Rattle.calls.specs.Performing.{Does-call, Performs-or-leaves};
+ghost use mathlib.Core.List.{[]};
+ghost use Prim.Native.Nat.{_≤_};
+ghost use lib.ListN.{length};
+ghost use Rattle.std.specs.Of.Vec.{vec-items, vec-len, vec-cap};
+ghost use Rattle.calls.specs.Performing.{Does-call, Performs, Performs-or-leaves};
 use crate::answered::choice;
 use crate::answered::copied;
 use crate::answered::marked;
@@ -31,8 +34,25 @@ pub fn call<G: Game>(board: &mut Board<G>, call: Call, buffer: &mut [u8]) -> Ans
     }
 }
 
-// The calls in their order, each on what the earlier ones left, and what each answered. The room for the answers is
-// taken first, so that want of memory leaves board and buffer as they were.
+// The calls in their order, each on what the earlier ones left, with room for what each answers.
+fn in_order<G: Game>(
+    board: &mut Board<G>,
+    calls: &[Call],
+    buffer: &mut [u8],
+    answers: &mut Vec<Answer>,
+)
+    requires { ⌜ vec-items (now answers) ≡ [] ⌝ ∗ ⌜ vec-len (now answers) ≡ 0 ⌝ ∗ ⌜ length (now calls) ≤ vec-cap (now answers) ⌝ }
+    ensures game { λ _. ⌜ now (board .exit) .game ≡ now (board .entry) .game ⌝ }
+    ensures performs { λ _. ⌜ Performs (G·Game .meaning (now (board .entry) .game)) (now (calls .entry)) (now (board .entry) .table) (now (board .exit) .table) (now (buffer .entry)) (now (buffer .exit)) (vec-items (now (answers .exit))) ⌝ }
+{
+    for each in calls {
+        let answer = call(board, *each, buffer);
+        answers.push_reserved(answer);
+    }
+}
+
+// Performs the calls and gives what each answered. The room for the answers is taken first, so that want of memory
+// leaves board and buffer as they were.
 pub fn perform<G: Game>(
     heap: Global,
     board: &mut Board<G>,
@@ -43,9 +63,6 @@ pub fn perform<G: Game>(
     ensures performs { λ r. ⌜ Performs-or-leaves vec-items (G·Game .meaning (now (board .entry) .game)) (now (calls .entry)) (now (board .entry) .table) (now (board .exit) .table) (now (buffer .entry)) (now (buffer .exit)) r ⌝ }
 {
     let mut answers = Vec::with_capacity(heap, calls.len())?;
-    for each in calls {
-        let answer = call(board, *each, buffer);
-        answers.push_reserved(answer);
-    }
+    in_order(board, calls, buffer, &mut answers);
     Ok(answers)
 }

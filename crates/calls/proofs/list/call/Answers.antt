@@ -31,7 +31,7 @@ returns-in-Ask g c =
     let m = g .G·Game .meaning (c .args .board .now .game) in
     record {
       game = refl;
-      does = asks m (c .args .board .now .table) (c .args .buffer .now) (c .says .result) (c .args .call) (c .in-Ask .rule) (c .in-Ask .state) (c .in-Ask .is) (c .ask .result) (c .ask .ensures) (c .says .ensures);
+      does = asks m (c .args .board .now .table) (c .args .buffer .now) (c .says .result) (c .args .call) (c .in-Ask .rule) (c .in-Ask .state) (c .in-Ask .is) (c .ask .result) (c .ask .ensures .answer) (c .says .ensures);
     }
 
 pub returns-in-Tell : need.returns-in-Tell
@@ -47,7 +47,7 @@ returns-in-Play g c =
     let m = g .G·Game .meaning (c .args .board .now .game) in
     record {
       game = refl;
-      does = plays m (c .args .board .now .table) (c .args .buffer .now) (c .choice .result) (c .args .call) (c .in-Play .rule) (c .in-Play .state) (c .in-Play .is) (c .play .result) (c .play .ensures) (c .choice .ensures);
+      does = plays m (c .args .board .now .table) (c .args .buffer .now) (c .choice .result) (c .args .call) (c .in-Play .rule) (c .in-Play .state) (c .in-Play .is) (c .play .result) (c .play .ensures .answer) (c .choice .ensures);
     }
 
 pub returns-in-Copy : need.returns-in-Copy

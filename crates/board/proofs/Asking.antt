@@ -28,8 +28,8 @@ use Rattle.atl.specs.Right.{Knows-parts}
 use Rattle.atl.proofs.Right.{closed-no, rule-right, can-right}
 use Rattle.table.specs.Standing.{Standing, Stack, found, marks-of, settled-of, mark-of, yes-states}
 use Rattle.table.specs.Answers.{ask-of, ask-answer}
-use Rattle.calls.specs.Law.{formula, Exactly-when, Means, Shows-number, Asked}
-use Rattle.calls.proofs.Knowing.{Here, mark-final}
+use Rattle.board.specs.Truth.{formula, Exactly-when, Means, Shows-number, Asked}
+use Rattle.board.proofs.Knowing.{Here, mark-final}
 
 pub ok-ok : {A : Type 0} {a b : A} → _≡_ {A = Result A Refusal} (Ok a) (Ok b) → a ≡ b
 ok-ok e = cc

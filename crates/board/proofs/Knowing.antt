@@ -28,7 +28,7 @@ use Rattle.table.specs.Shows.{Orderly, All-right}
 use Rattle.table.proofs.Marking.{done-r, done-s}
 use Rattle.table.proofs.Stacks.{top, under}
 use Rattle.table.proofs.Advancing.{fresh-settles}
-use Rattle.calls.specs.Law.{formula}
+use Rattle.board.specs.Truth.{formula}
 
 pub knows-parts : (m : Structure) (f : Kind) (r s : Formula) (R S : ℕ → Bool) → (uses-r f ≡ true → Knows m r R) → (uses-s f ≡ true → Knows m s S) → Knows-parts m f r s R S
 knows-parts m Label r s R S k l = tt
@@ -79,6 +79,7 @@ module _ (m : Structure) (L : Limits m) where
 
   -- the rule n of a stack, with what is known of it
   pub record Here (st : Stack) (n : ℕ) (x : Standing) (low : Stack) : Type 0 where
+    pub up : n < length st
     pub orderly : Orderly m low x
     pub yes-is : (q : ℕ) → yes-states m st n q ≡ is-yes (mark-of m x (yes-states m low) q)
     pub settled-is : settled m st n ≡ settled-of m x (yes-states m low)
@@ -92,6 +93,7 @@ module _ (m : Structure) (L : Limits m) where
       (λ (i : n ≡ length ys).
       let same : (y, ys) ≡ (x, low) = some-some (sym (top ys n _ _ i) ∙ e) in
       subst (λ (z : Standing × Stack). Here (y ∷ ys) n (z .0) (z .1)) same (record {
+        up = omega arith;
         orderly = a .0;
         yes-is = λ q. top ys n _ _ i;
         settled-is = top ys n _ _ i;
@@ -101,6 +103,7 @@ module _ (m : Structure) (L : Limits m) where
       (λ (i : n ≡ length ys → ⊥).
       let b = here rules ys (a .2) n x low (sym (under ys n _ _ i) ∙ e) in
       record {
+        up = omega (arith, b .up);
         orderly = b .orderly;
         yes-is = λ q. under ys n _ _ i ∙ b .yes-is q;
         settled-is = under ys n _ _ i ∙ b .settled-is;

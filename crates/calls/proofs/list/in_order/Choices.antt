@@ -3,7 +3,7 @@ use mathlib.Core.Path.{_≡_}
 use lib.ListN.{length, take}
 use Rattle.std.specs.Of.Vec.{vec-len, vec-cap, vec-items}
 use Rattle.calls.specs.Performing.{Performs}
-use Rattle.calls.proofs.list.perform.Given as given
+use Rattle.calls.proofs.list.in_order.Given as given
 
 abbrev pub Inv-loop-each : given.InvT-loop-each
 Inv-loop-each g l =

@@ -1,18 +1,17 @@
-use mathlib.Core.Path.{_≡_, refl, ap, subst, _∙_}
+use mathlib.Core.Path.{refl, ap, subst, _∙_}
 use native.Mathlib.Omega.{arith}
-use Prim.Native.Nat.{ℕ, _+_}
+use Prim.Native.Nat.{_+_}
 use lib.ListN.{getD}
 use Rattle.std.specs.Of.Vec.{vec-items}
 use Rattle.calls.specs.declared.types.Call.the-variants.{Write}
 use Rattle.calls.specs.Performing.{Does-call}
 use Rattle.calls.proofs.Performing.{performs-none, performs-more, performs-all}
-use Rattle.calls.proofs.list.perform.Needs as need
+use Rattle.calls.proofs.list.in_order.Needs as need
 
 pub loop-each-holds : need.loop-each-holds
 loop-each-holds g c =
     let x = c .args .board .now .game in
-    let e = c .in-Continue-answers .ensures tt .made in
-    (refl, e .1 .0, e .1 .1, performs-none (g .G·Game .meaning x) (g .G·Game .limits x) (c .args .board .now .table) (c .args .buffer .now) (vec-items (c .in-Continue-answers .answers)) (e .0))
+    (refl, c .pre .1 .0, c .pre .1 .1, performs-none (g .G·Game .meaning x) (g .G·Game .limits x) (c .args .board .now .table) (c .args .buffer .now) (vec-items (c .args .answers .now)) (c .pre .0))
 
 pub loop-each-again : need.loop-each-again
 loop-each-again g c =

@@ -1,0 +1,3 @@
+pub mod Knowing
+pub mod Asking
+pub mod Playing
