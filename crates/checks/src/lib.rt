@@ -7,8 +7,15 @@ mod tests {
     use atl::Verdict;
     use atl::VerdictDebug;
     use atl::VerdictPartialEq;
+    use binding::Binding;
+    use binding::BindingGame;
     use board::Board;
     use book::UnreadBook;
+    use calls::Answer;
+    use calls::AnswerDebug;
+    use calls::AnswerPartialEq;
+    use calls::Call;
+    use calls::perform;
     use drill::Drill;
     use drill::DrillGame;
     use game::Game;
@@ -192,5 +199,104 @@ mod tests {
             faulty(b"\x01\x00\x03\x01\x00\x00\x02\x00\x04\x00\x00\x01\x00\x03"),
             (16, 13),
         )
+    }
+
+    // The rules of "answered at last": 0 is label 8, 2 is true everywhere, 3 is can-until with r 2 and s 0.
+    fn settle_reach<G: Game>(board: &mut Board<G>, group: u8) {
+        let _ = board.write(0, 0, 8, 0);
+        let _ = board.write(1, 0, 0, 0);
+        let _ = board.write(2, 0, 0, 1);
+        let _ = board.write(4, group, 2, 0);
+        for rule in 0..4u8 {
+            for _ in 0..5 {
+                let _ = board.round(rule);
+            }
+        }
+    }
+
+    #[test]
+    fn playbook_in_the_middle_of_a_buffer() -> Result<(), Fail> {
+        let mut board = Board::new(drill(1)?);
+        settle_reach(&mut board, 3);
+        let mut buffer = [7u8; 18];
+        let copied = board.copy(3, &mut buffer, 1);
+        let no_room = refused(board.copy(3, &mut buffer, 3));
+        let no_rule = refused(board.copy(4, &mut buffer, 0));
+        let no_playbook = refused(board.play(0, 0));
+        let no_state = refused(board.play(3, 4));
+        let played = board.play(3, 0);
+        let _ = board.write(4, 1, 2, 0);
+        let unsettled = refused(board.play(4, 0));
+        let _ = board.close();
+        check_eq(copied.ok(), Some(16))?;
+        check_eq(played.ok(), Some(34))?;
+        check(
+            no_room == 11 && no_rule == 5 && no_playbook == 10 && no_state == 6 && unsettled == 9,
+        )?;
+        check_eq(buffer, *b"\x07\0\0\0\x22\0\0\0\x22\0\0\0\x11\0\0\0\x11\x07")
+    }
+
+    #[test]
+    fn bound_to_its_playbook() -> Result<(), Fail> {
+        let mut binding = Binding::new(drill(1)?, 3);
+        let no_state = refused(binding.set(4, 0x11));
+        let no_choice = refused(binding.set(0, 0x31));
+        let first = refused(binding.set(0, 0x22));
+        let second = refused(binding.set(1, 0x22));
+        let mut board = Board::new(binding);
+        settle_reach(&mut board, 0);
+        let told = board.tell(3);
+        let at_try = board.ask(3, 0);
+        let given_up = board.ask(3, 3);
+        let _ = board.close().close();
+        check(no_state == 6 && no_choice == 12 && first == 0 && second == 0)?;
+        check_eq(told.ok(), Some((3, true)))?;
+        check_eq(
+            at_try.ok(),
+            Some(Shown {
+                verdict: Verdict::Yes,
+                number: 1,
+            }),
+        )?;
+        check_eq(
+            given_up.ok(),
+            Some(Shown {
+                verdict: Verdict::No,
+                number: 256,
+            }),
+        )
+    }
+
+    #[test]
+    fn calls_on_what_earlier_ones_left(rt: LibcRuntime) -> Result<(), Fail> {
+        let calls = [
+            Call::Round(0),
+            Call::Write(0, 0, 8, 0),
+            Call::Round(0),
+            Call::Ask(0, 2),
+            Call::Erase,
+            Call::Ask(0, 2),
+            Call::Copy(0, 0),
+        ];
+        let mut board = Board::new(drill(1)?);
+        let mut buffer = [1u8; 4];
+        let made = perform(rt.alloc(), &mut board, &calls, &mut buffer);
+        let _ = board.close();
+        let answers = made?;
+        check(answers.len() == 7)?;
+        check_eq(answers[0], Answer::Refused(Refusal::NoRule))?;
+        check_eq(answers[1], Answer::Number(0))?;
+        check_eq(answers[2], Answer::Marked(4))?;
+        check_eq(
+            answers[3],
+            Answer::Says(Shown {
+                verdict: Verdict::Yes,
+                number: 0,
+            }),
+        )?;
+        check_eq(answers[4], Answer::Number(0))?;
+        check_eq(answers[5], Answer::Refused(Refusal::NoRule))?;
+        check_eq(answers[6], Answer::Refused(Refusal::NoRule))?;
+        check_eq(buffer, [1u8; 4])
     }
 }
