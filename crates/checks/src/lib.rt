@@ -201,6 +201,86 @@ mod tests {
         )
     }
 
+    // The fault of the first bytes of the meeting book: its fields stand at these places, and its rules from 33 on.
+    fn truncated(len: usize) -> (u8, usize) {
+        let fields = [0usize, 6, 17, 25, 33, 40, 47, 54];
+        let mut field = 0;
+        for i in 0..8usize {
+            if fields[i] <= len {
+                field = fields[i];
+            }
+        }
+        if field < len {
+            (16, field)
+        } else if field < 33 {
+            (15, field)
+        } else {
+            (0, 0)
+        }
+    }
+
+    #[test]
+    fn truncations_of_the_meeting_book() -> Result<(), Fail> {
+        let book =
+            *b"\x01\0\x03\x02\x02\0\x02\0\x08\0\0\x02\x02\x01\x02\x02\x01\x02\0\x05\0\x01\x01\x01\x01\x02\0\x05\0\0\x01\x01\x02\x03\0\x04\0\0\0\0\x03\0\x04\x03\x01\0\0\x03\0\x04\x06\x01\0\0";
+        for len in 0..55usize {
+            check_eq(faulty(&book[..len]), truncated(len))?;
+        }
+        Ok(())
+    }
+
+    // A book of one player who has one move, with so many states, each but the last leading to the start.
+    fn chain(heap: Global, most: u8, states: u16, last: u8) -> Result<Vec<u8>, Fail> {
+        let mut bytes = Vec::new(heap);
+        bytes.extend_from_slice(b"\x01\0\x03\x01")?;
+        bytes.push(most)?;
+        bytes.push(0)?;
+        for _ in 1..states {
+            bytes.extend_from_slice(b"\x02\0\x04\0\0\x01\0")?;
+        }
+        bytes.extend_from_slice(b"\x02\0\x04\0\0\x01")?;
+        bytes.push(last)?;
+        Ok(bytes)
+    }
+
+    #[test]
+    fn last_state_of_a_book(rt: LibcRuntime) -> Result<(), Fail> {
+        let one = chain(rt.alloc(), 0, 1, 0)?;
+        check_eq(faulty(one.as_slice()), (0, 0))?;
+        let whole = chain(rt.alloc(), 255, 256, 255)?;
+        check_eq(faulty(whole.as_slice()), (0, 0))?;
+        let ended = chain(rt.alloc(), 255, 255, 0)?;
+        check_eq(faulty(ended.as_slice()), (15, 1791))?;
+        let astray = chain(rt.alloc(), 254, 255, 255)?;
+        check_eq(faulty(astray.as_slice()), (19, 1790))
+    }
+
+    // A book of one state and 9,359 rules, which these bytes end: seven of them make the largest book.
+    fn long(heap: Global, end: &[u8]) -> Result<Vec<u8>, Fail> {
+        let mut bytes = Vec::new(heap);
+        bytes.extend_from_slice(b"\x01\0\x03\x01\0\0\x02\0\x06\0\0\x03\0\0\0")?;
+        for _ in 0..9359 {
+            bytes.extend_from_slice(b"\x03\0\x04\0\0\0\0")?;
+        }
+        bytes.extend_from_slice(end)?;
+        Ok(bytes)
+    }
+
+    #[test]
+    fn end_of_the_largest_book(rt: LibcRuntime) -> Result<(), Fail> {
+        let largest = long(rt.alloc(), b"\x03\0\x04\0\0\0\0")?;
+        check(largest.len() == 65535)?;
+        check_eq(faulty(largest.as_slice()), (0, 0))?;
+        let cut = long(rt.alloc(), b"\x03\0\x04\0\0\0")?;
+        check_eq(faulty(cut.as_slice()), (16, 65528))?;
+        let tag = long(rt.alloc(), b"\x02\0\x04\0\0\0\0")?;
+        check_eq(faulty(tag.as_slice()), (17, 65528))?;
+        let short = long(rt.alloc(), b"\x03\0\x03\0\0\0")?;
+        check_eq(faulty(short.as_slice()), (18, 65528))?;
+        let over = long(rt.alloc(), b"\x03\0\x04\0\0\0\0\x03")?;
+        check_eq(faulty(over.as_slice()), (14, 0))
+    }
+
     // The rules of "answered at last": 0 is label 8, 2 is true everywhere, 3 is can-until with r 2 and s 0.
     fn settle_reach<G: Game>(board: &mut Board<G>, group: u8) {
         let _ = board.write(0, 0, 8, 0);
@@ -298,5 +378,99 @@ mod tests {
         check_eq(answers[5], Answer::Refused(Refusal::NoRule))?;
         check_eq(answers[6], Answer::Refused(Refusal::NoRule))?;
         check_eq(buffer, [1u8; 4])
+    }
+
+    #[test]
+    fn three_bindings() -> Result<(), Fail> {
+        let mut sends = Binding::new(drill(1)?, 1);
+        let first = refused(sends.set(0, 0x02));
+        let second = refused(sends.set(1, 0x02));
+        let mut carries = Binding::new(sends, 2);
+        let third = refused(carries.set(0, 0x20));
+        let bound_below = refused(carries.set(1, 0x22));
+        let mut both = Binding::new(carries, 3);
+        let only_moves = refused(both.set(0, 0x11));
+        let moves_below = refused(both.set(0, 0x22));
+        let answered = both.next(0, 0x11);
+        let lost = both.next(1, 0x11);
+        let one_move = both.moves(1, 0);
+        let mut board = Board::new(both);
+        settle_reach(&mut board, 0);
+        let at_start = board.ask(3, 0);
+        let at_limit = board.ask(3, 1);
+        let _ = board.close().close().close().close();
+        check(first == 0 && second == 0 && third == 0 && bound_below == 12)?;
+        check(only_moves == 0 && moves_below == 12 && one_move == 1)?;
+        check_eq(answered, Some(2))?;
+        check_eq(lost, Some(3))?;
+        check_eq(
+            at_start.ok(),
+            Some(Shown {
+                verdict: Verdict::Yes,
+                number: 1,
+            }),
+        )?;
+        check_eq(
+            at_limit.ok(),
+            Some(Shown {
+                verdict: Verdict::No,
+                number: 256,
+            }),
+        )
+    }
+
+    #[test]
+    fn part_erased_and_written_again(rt: LibcRuntime) -> Result<(), Fail> {
+        let calls = [
+            Call::Write(0, 0, 8, 0),
+            Call::Round(0),
+            Call::Write(1, 0, 0, 0),
+            Call::Erase,
+            Call::Erase,
+            Call::Write(0, 0, 0, 0),
+            Call::Write(1, 0, 0, 0),
+            Call::Round(1),
+            Call::Tell(0),
+            Call::Round(0),
+            Call::Round(1),
+            Call::Ask(1, 3),
+        ];
+        let mut board = Board::new(drill(1)?);
+        let mut buffer = [0u8; 1];
+        let made = perform(rt.alloc(), &mut board, &calls, &mut buffer);
+        let _ = board.close();
+        let answers = made?;
+        check(answers.len() == 12)?;
+        check_eq(answers[2], Answer::Number(1))?;
+        check_eq(answers[3], Answer::Number(1))?;
+        check_eq(answers[4], Answer::Number(0))?;
+        check_eq(answers[5], Answer::Number(0))?;
+        check_eq(answers[6], Answer::Number(1))?;
+        check_eq(answers[7], Answer::Refused(Refusal::PartUnsettled))?;
+        check_eq(answers[8], Answer::Told(0, false))?;
+        check_eq(answers[9], Answer::Marked(4))?;
+        check_eq(answers[10], Answer::Marked(4))?;
+        check_eq(
+            answers[11],
+            Answer::Says(Shown {
+                verdict: Verdict::No,
+                number: 0,
+            }),
+        )
+    }
+
+    #[test]
+    fn copy_at_the_last_place(rt: LibcRuntime) -> Result<(), Fail> {
+        let calls = [Call::Copy(3, 2), Call::Copy(3, 3)];
+        let mut board = Board::new(drill(1)?);
+        settle_reach(&mut board, 3);
+        let mut buffer = [7u8; 18];
+        let made = perform(rt.alloc(), &mut board, &calls, &mut buffer);
+        let _ = board.close();
+        let answers = made?;
+        check(answers.len() == 2)?;
+        check_eq(answers[0], Answer::Copied(16))?;
+        check_eq(answers[1], Answer::Refused(Refusal::NoRoom))?;
+        check_eq(buffer, *b"\x07\x07\0\0\0\x22\0\0\0\x22\0\0\0\x11\0\0\0\x11")
     }
 }

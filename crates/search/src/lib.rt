@@ -1,11 +1,18 @@
 // The search for a choice that leads into a set of states, whatever the others reply, and its dual.
 ghost use mathlib.Core.Path.{_≡_};
-ghost use Prim.Native.Nat.{ℕ, _+_, _-_, _*_, _/_, _%_, _^_, _<_, _≤_};
+ghost use Prim.Native.Nat.{ℕ, _+_, _-_, _*_, _/_, _%_, _^_, _<_, _≤_, min};
 ghost use Rattle.game.specs.Lists.{own, highest as highestOf, lowest as lowestOf, following as followingOf};
 ghost use Rattle.game.specs.Serving.{set-of, within, first-serving, all-answered};
 ghost use Rattle.game.specs.Reading.{Serving, Answering};
 use game::Game;
 use game::Sides;
+
+// The first move of one who has so many: 1, or 0 where there is none.
+fn first_move(moves: u32) -> u32
+    ensures { λ r. ⌜ r ≡ min moves 1 ⌝ }
+{
+    moves.min(1)
+}
 
 // The lowest number under the highest one, four bits a player.
 fn lowest(players: u8, highest: u32) -> u32
@@ -15,7 +22,7 @@ fn lowest(players: u8, highest: u32) -> u32
     if players == 0 {
         return 0;
     }
-    lowest(players - 1, highest / 16) * 16 + (highest % 16).min(1)
+    lowest(players - 1, highest / 16) * 16 + first_move(highest % 16)
 }
 
 // The next number under the highest one.
@@ -30,7 +37,7 @@ fn following(players: u8, highest: u32, number: u32) -> Option<u32>
         return Some(number + 1);
     }
     match following(players - 1, highest / 16, number / 16) {
-        Some(high) => Some(high * 16 + (highest % 16).min(1)),
+        Some(high) => Some(high * 16 + first_move(highest % 16)),
         None => None,
     }
 }

@@ -27,12 +27,12 @@ use Rattle.table.proofs.Calls.{At, at, gone}
 use Rattle.table.proofs.Books.{booked, book, book-is, choice-is}
 
 -- one choice more
-pub bytes-more : (f : ℕ → ℕ) (i k c : ℕ) (xs ys zs : List ℕ) → i * 4 ≤ length xs → take (4 * i) xs ≡ book-bytes f i → ys ≡ zs → zs ≡ four-bytes c → c ≡ f i → take (4 * (i + 1)) (putMid (i * 4) k xs ys) ≡ book-bytes f (i + 1)
-bytes-more f i k c xs ys zs l e g h j =
+pub bytes-more : (f : ℕ → ℕ) (i at k c : ℕ) (xs ys zs : List ℕ) → at ≡ i * 4 → at ≤ length xs → take (4 * i) xs ≡ book-bytes f i → ys ≡ zs → zs ≡ four-bytes c → c ≡ f i → take (4 * (i + 1)) (putMid at k xs ys) ≡ book-bytes f (i + 1)
+bytes-more f i at k c xs ys zs p l e g h j =
     let w : ys ≡ four-bytes (f i) = g ∙ h ∙ ap four-bytes j in
-    let n : 4 * (i + 1) ≡ i * 4 + length ys = omega (arith, ap length w) in
-    let m : i * 4 ≡ 4 * i = omega arith in
-    take-putMid (i * 4) k xs ys (4 * (i + 1)) n l ∙ ap₂ (λ (a b : List ℕ). a ++ b) (ap (λ x. take x xs) m ∙ e) w ∙ sym (ap (book-bytes f) (add-one i))
+    let n : 4 * (i + 1) ≡ at + length ys = omega (arith, ap length w) in
+    let m : at ≡ 4 * i = omega arith in
+    take-putMid at k xs ys (4 * (i + 1)) n l ∙ ap₂ (λ (a b : List ℕ). a ++ b) (ap (λ x. take x xs) m ∙ e) w ∙ sym (ap (book-bytes f) (add-one i))
 
 pub bytes-all : (f : ℕ → ℕ) (i n : ℕ) (xs : List ℕ) → i ≡ n → length xs ≡ 4 * n → take (4 * i) xs ≡ book-bytes f i → xs ≡ book-bytes f n
 bytes-all f i n xs e l h = sym (take-all (4 * i) xs (omega arith)) ∙ h ∙ ap (book-bytes f) e

@@ -48,6 +48,13 @@ fn has_room(len: usize, place: usize, size: usize) -> bool
     size <= len && place <= len - size
 }
 
+// Where the state's choice stands in a playbook's bytes.
+fn place_of(state: u16) -> usize
+    ensures { λ r. ⌜ r ≡ state * 4 ⌝ }
+{
+    state as usize * 4
+}
+
 // What kind of playbook a rule has.
 fn temporal(kind: Kind) -> Result<Temporal, Refusal>
     ensures { λ r. ⌜ r ≡ temporal-of kind ⌝ }
@@ -143,7 +150,7 @@ impl Table {
             let choice = self.rules[rule as usize]
                 .choice(game, temporal, state as u8, &r, &s);
             let bytes = choice.to_be_bytes();
-            let at = state as usize * 4;
+            let at = place_of(state);
             part[at..at + 4].copy_from_slice(&bytes);
         }
     }

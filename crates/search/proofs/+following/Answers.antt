@@ -21,7 +21,7 @@ pub add-result-in-Some : need.add-result-in-Some
 add-result-in-Some t c = omega (arith, following-small (c .args .players) (c .args .highest) (c .args .number) (c .in-Some .high) (c .if-players-eq0 .left) (c .pre .0) (c .pre .1) (c .in-Some .ensures tt))
 
 pub returns-in-Some : need.returns-in-Some
-returns-in-Some t c = following-more (c .args .players) (c .args .highest) (c .args .number) (c .in-Some .high) (c .min .result) (c .if-players-eq0 .left) (c .if-number-highest .left) (c .in-Some .ensures tt) (c .min .ensures)
+returns-in-Some t c = following-more (c .args .players) (c .args .highest) (c .args .number) (c .in-Some .high) (c .first-move .result) (c .if-players-eq0 .left) (c .if-number-highest .left) (c .in-Some .ensures tt) (c .first-move .ensures)
 
 pub returns-in-None : need.returns-in-None
 unfolding lift

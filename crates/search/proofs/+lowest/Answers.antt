@@ -12,4 +12,4 @@ pub add-result : need.add-result
 add-result t c = omega (arith, lowest-small (c .args .players) (c .args .highest) (c .lowest .result) (c .if-players-eq0 .left) (c .pre) (c .lowest .ensures))
 
 pub returns : need.returns
-returns t c = simp (c .lowest .ensures) (lowest-more (c .args .players) (c .args .highest) (c .min .result) (omega arith) (omega arith))
+returns t c = simp (c .lowest .ensures) (lowest-more (c .args .players) (c .args .highest) (c .first-move .result) (omega arith) (omega arith))
