@@ -1,4 +1,6 @@
 // What rules are, and what their rounds mark.
+#![tactic(auto)]
+
 ghost use Rattle.std.specs.Prelude.{◌≡◌, ◌+◌};
 ghost use Rattle.atl.specs.Kinds.{kind_of};
 ghost use Rattle.atl.specs.Rounds.{shown as shown_as};

@@ -1,5 +1,5 @@
 -- What ask answers of a rule, and what that means.
-use Rattle.std.proofs.Common.{◌≡◌, ℕ, ◌<◌, Bool, true, false, not, Some, None, Ok, Err, Decides, Option, Result, sym, refl, ap, ◌∙◌, subst, ⊎_elim, true≢false, arith}
+use Rattle.std.proofs.Common.{◌≡◌, ℕ, ◌<◌, Bool, true, false, not, Some, Ok, Decides, Option, Result, sym, refl, ap, ◌∙◌, subst, true≢false, arith}
 use Rattle.std.proofs.lemmas.Bool.{lt-ltb, cond-true, not-true, not_from_false}
 use Rattle.game.specs.Structure.{Structure, Limits}
 use Rattle.refusal.specs.declared.Refusal.{Refusal}
@@ -12,14 +12,14 @@ use Rattle.atl.specs.declared.Mark.TheVariants.{Open, Yes, No}
 use Rattle.atl.specs.declared.Verdict.{Verdict}
 use Rattle.atl.specs.declared.Verdict.TheVariants as verdict
 use Rattle.atl.specs.declared.Shown.{Shown}
-use Rattle.atl.specs.Rounds.{is_yes, shown, marks}
+use Rattle.atl.specs.Rounds.{is_yes, shown}
 use Rattle.atl.specs.Rules.{Formula}
-use Rattle.atl.specs.Verdict.{is_no, Settled, final, yes, no}
+use Rattle.atl.specs.Verdict.{is_no, Settled, yes, no}
 use Rattle.atl.specs.Right.{KnowsParts}
 use Rattle.atl.proofs.Right.{closed_no, rule_right, can_right}
 use Rattle.table.specs.Standing.{Standing, Stack, found, marks_of, settled_of, mark_of, yes_states}
 use Rattle.table.specs.Answers.{ask_of, ask_answer}
-use Rattle.board.specs.Truth.{formula, ExactlyWhen, Means, ShowsNumber, Asked}
+use Rattle.board.specs.Truth.{formula, ExactlyWhen, Means, Asked}
 use Rattle.board.proofs.Knowing.{Here, mark_final}
 
 pub ok_ok : {A : Type 0} {a b : A} → ◌≡◌ {A = Result A Refusal} (Ok a) (Ok b) → a ≡ b

@@ -1,29 +1,25 @@
 -- The playbook of a settled can-rule.
-use Rattle.std.proofs.Common.{◌≡◌, ℕ, zero, suc, ◌+◌, ◌*◌, ◌<◌, ◌≤◌, Bool, true, false, cond, leb, List, [], ◌∷◌, ◌++◌, length, take, drop, Some, None, Ok, Err, Option, Result, sym, refl, ap, ◌∙◌, subst, ⊎_elim, append_assoc, arith, length-append}
+use Rattle.std.proofs.Common.{◌≡◌, ℕ, zero, suc, ◌+◌, ◌*◌, ◌<◌, ◌≤◌, Bool, true, false, cond, leb, List, ◌++◌, length, take, drop, Some, Ok, Err, Option, sym, refl, ap, ◌∙◌, subst, ⊎_elim, append_assoc, arith, length-append}
 use mathlib.Core.Path.{fun_ext}
 use Rattle.std.proofs.lemmas.List.{drop-drop, drop_at, take_at, length-take-le}
-use Rattle.std.proofs.lemmas.Bool.{cases_lt, cases_eq, lt-ltb, leb-true, cond-true}
+use Rattle.std.proofs.lemmas.Bool.{cases_lt, lt-ltb, leb-true, cond-true}
 use Rattle.game.specs.Structure.{Structure, Limits}
-use Rattle.refusal.specs.declared.Refusal.{Refusal}
 use Rattle.refusal.specs.declared.Refusal.TheVariants.{NoRoom}
 use Rattle.atl.specs.declared.Kind.{Kind}
 use Rattle.atl.specs.declared.Kind.TheVariants.{Strategic}
 use Rattle.atl.specs.declared.Modality.TheVariants.{Can}
 use Rattle.atl.specs.declared.Temporal.{Temporal}
 use Rattle.atl.specs.declared.Mark.{Mark}
-use Rattle.atl.specs.declared.Verdict.TheVariants as verdict
 use Rattle.atl.specs.Rounds.{is_yes}
-use Rattle.atl.specs.Rules.{Formula, Satisfies, rule}
-use Rattle.atl.specs.Verdict.{Settled, final, yes, verdict as verdict-of}
 use Rattle.atl.specs.Playbook.{playbook}
-use Rattle.atl.specs.Right.{KnowsParts, PlaysBook, PlaybookRight}
+use Rattle.atl.specs.Right.{PlaysBook, PlaybookRight}
 use Rattle.atl.proofs.Plays.{playbook_right}
 use Rattle.table.specs.declared.types.Rule.{Rule}
 use Rattle.table.specs.Shows.{AllRight}
 use Rattle.table.specs.Standing.{Standing, Stack, found, settled_of, mark_of, yes_states, settled}
-use Rattle.table.specs.Answers.{book_of, choice_in, play_of, play_answer, size_in, copy_of, copy_answer, four_bytes, book_bytes, written_in, buffer_of, buffer_after}
+use Rattle.table.specs.Answers.{book_of, choice_in, play_of, play_answer, size_in, copy_of, four_bytes, book_bytes, written_in, buffer_of, buffer_after}
 use Rattle.table.proofs.Taking.{err_ok}
-use Rattle.board.specs.Truth.{formula, Asked, IsBook, IsCopied, BookRight, SettledRight}
+use Rattle.board.specs.Truth.{formula, IsBook, IsCopied, BookRight, SettledRight}
 use Rattle.board.proofs.Knowing.{mark_final, Here, here}
 use Rattle.board.proofs.Asking.{ok_ok, shown_number, ask_is, asked_yes, rule_means}
 

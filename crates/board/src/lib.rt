@@ -1,4 +1,6 @@
 // The board: a game with the table of its rules.
+#![tactic(auto)]
+
 ghost use Rattle.std.specs.Prelude.{◌≡◌, ℕ, length};
 ghost use Rattle.table.specs.Answers.{nothing, write_answer, write_after, erase_answer, erase_after, round_answer, round_after, ask_answer, tell_answer, play_answer, copy_answer};
 ghost use Rattle.table.specs.Books.{Buffered, KeptIfRefused};

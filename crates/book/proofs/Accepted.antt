@@ -27,9 +27,6 @@ module _ (q : State) where
   pub count_there : (i : ℕ) → i < length q.counts → get_or (state_value q) (2 + i) 0 ≡ get_or q.counts i 0
   count_there i l = getD_two (q.labels / 256) (q.labels % 256) (q.counts ++ q.nexts) i ∙ get_or_append_left q.counts q.nexts 0 i l
 
-  pub value_count : (a : ℕ) → 1 ≤ a → a ≤ length q.counts → count_in (state_value q) a ≡ count q a
-  value_count a l u = let s : 1 + a ≡ 2 + (a - 1) = omega arith in ap (λ k. get_or (state_value q) k 0) s ∙ count_there (a - 1) (omega arith)
-
   pub next_there : (P j : ℕ) → length q.counts ≡ P → next_in P (state_value q) j ≡ get_or q.nexts j 0
   next_there P j e =
       let s : 2 + P + j ≡ 2 + (P + j) = omega arith in
@@ -42,7 +39,7 @@ module _ (q : State) where
   pub product_there : (P : ℕ) → length q.counts ≡ P → product_in P (state_value q) ≡ vectors_of q
   product_there P e =
       product_same (count_in (state_value q)) (count q) P
-      (λ a l u. value_count a l (omega arith))
+      (λ a l u. let s : 1 + a ≡ 2 + (a - 1) = omega arith in ap (λ k. get_or (state_value q) k 0) s ∙ count_there (a - 1) (omega arith))
       ∙ ap (product (count q)) (sym e)
 
   state_passes : (P N p : ℕ) → StateFits P N q → Passes (state_tests P N 2 (state_value q) p)
@@ -93,9 +90,6 @@ module _ (c : Content) (h : Fits c) where
   head_field : FieldAt (encode c) 0 1 (heading_value c)
   head_field = field_here [] 1 (heading_value c) (flat_map state_field c.states ++ encode_rules c.rules)
 
-  pub states_start : states_from (encode c) ≡ 6
-  states_start = head_field.ends
-
   pub players_read : players_in (encode c) ≡ c.players
   players_read = ap (λ v. get_or v 0 0) head_field.value_is
 
@@ -107,12 +101,12 @@ module _ (c : Content) (h : Fits c) where
 
   pub state_there : (k : ℕ) → k < length c.states → FieldAt (encode c) (spot (encode c) (states_from (encode c)) k) 2 (state_value (get_or c.states k no_state))
   state_there k l =
-      subst (λ p. FieldAt (encode c) (spot (encode c) p k) 2 (state_value (get_or c.states k no_state))) (sym states_start)
+      subst (λ p. FieldAt (encode c) (spot (encode c) p k) 2 (state_value (get_or c.states k no_state))) (sym head_field.ends)
       (fields_at 2 state_value (encode c) (encode_rules c.rules) (field 1 (heading_value c)) c.states k no_state refl l)
 
   rules_start : rules_from (encode c) ≡ length (field 1 (heading_value c) ++ flat_map state_field c.states)
   rules_start =
-      ap (λ p. spot (encode c) p (states_in (encode c))) states_start
+      ap (λ p. spot (encode c) p (states_in (encode c))) head_field.ends
       ∙ (ap (spot (encode c) 6) states_read ∙ fields_end 2 state_value (encode c) (encode_rules c.rules) (field 1 (heading_value c)) c.states refl)
 
   split : encode c ≡ (field 1 (heading_value c) ++ flat_map state_field c.states) ++ encode_rules c.rules

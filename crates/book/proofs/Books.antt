@@ -1,21 +1,20 @@
 -- The tests of a whole book, from what its parts were read as.
-use Rattle.std.proofs.Common.{ℕ, ◌<◌, List, subst}
+use Rattle.std.proofs.Common.{ℕ, List, drop, subst}
 use Rattle.book.specs.declared.fault.Fault.{Fault}
 use Rattle.book.specs.declared.field.FieldReader.{FieldReader}
 use Rattle.book.specs.declared.record.Heading.{Heading}
 use Rattle.book.specs.declared.rules.Rules.{Rules}
 use Rattle.book.specs.Tests.{Tests, Passes, Fails, each}
-use Rattle.book.specs.Fields.{value, spot, Stride}
-use Rattle.book.specs.Layout.{heading_at, states_tests, all_states, all_rules, players_in, states_in, states_from, rules_from, parts_tests, SameCounts}
-use Rattle.book.specs.Readers.{bytes_of, Stands, Heads, Recorded, WentOver, ReadOver}
-use Rattle.book.specs.Bytes.{Sized, StateBytes, BookBytes}
+use Rattle.book.specs.Fields.{value, spot}
+use Rattle.book.specs.Layout.{heading_at, states_tests, all_states, all_rules, players_in, states_from, rules_from, parts_tests}
+use Rattle.book.specs.Readers.{bytes_of, Stands, Heads, Headed, Over}
 use Rattle.book.proofs.Judging.{passes-++, fails_left, fails_right}
 use Rattle.book.proofs.Walks.{here, further}
 
 -- the reader went from the heading to the states
-module _ (bs : List ℕ) (r s : FieldReader) (h : Heading) (began : Stands bs 0 r) (headed : Recorded Heads r s h) where
+module _ (bs : List ℕ) (r s : FieldReader) (h : Heading) (began : Stands bs 0 r) (headed : Headed r s h) where
   pub heads : Heads (value bs 0) h
-  heads = here bs 0 r began (λ x n. Heads (value x n) h) headed.says
+  heads = here bs 0 r began (λ x n. Heads (value x n) h) headed.heads
 
   at_states : Stands bs (states_from bs) s
   at_states = further bs 0 r began 1 s headed.passed
@@ -27,33 +26,15 @@ module _ (bs : List ℕ) (r s : FieldReader) (h : Heading) (began : Stands bs 0 
       (here bs (states_from bs) s at_states (λ x n. T (each h.states (states_tests h.players h.states x n))) t))
 
   -- and from there to the rules
-  module _ (t : FieldReader) (w m : ℕ) (over : WentOver h.players h.states s t w m) where
+  module _ (t : FieldReader) (over : Stands (bytes_of s) (spot (bytes_of s) s.at h.states) t) where
     at_rules : Stands bs (rules_from bs) t
-    at_rules = subst (λ N. Stands bs (spot bs (states_from bs) N) t) heads.states (further bs (states_from bs) s at_states h.states t over.walked.stands)
+    at_rules = subst (λ N. Stands bs (spot bs (states_from bs) N) t) heads.states (further bs (states_from bs) s at_states h.states t over)
 
     pub rules_here : (T : Tests → Type 0) → T (all_rules (bytes_of t) t.at) → T (all_rules bs (rules_from bs))
     rules_here T x = here bs (rules_from bs) t at_rules (λ y n. T (all_rules y n)) x
 
-    pub rules_over : (u : Rules) → ReadOver (bytes_of t) t.at u → ReadOver bs (rules_from bs) u
-    rules_over u o = here bs (rules_from bs) t at_rules (λ y n. ReadOver y n u) o
-
-    pub strides : Stride bs (states_from bs) (states_in bs) w
-    strides = subst (λ N. Stride bs (states_from bs) N w) heads.states (here bs (states_from bs) s at_states (λ y n. Stride y n h.states w) over.stride)
-
-    pub same_counts : SameCounts (players_in bs) bs (states_from bs) (states_in bs) m
-    same_counts =
-        subst (λ N. SameCounts (players_in bs) bs (states_from bs) N m) heads.states
-        (subst (λ P. SameCounts P bs (states_from bs) h.states m) heads.players
-        (here bs (states_from bs) s at_states (λ y n. SameCounts h.players y n h.states m) over.counts))
-
-    pub book_bytes : (u : Rules) → ReadOver (bytes_of t) t.at u → BookBytes bs
-    book_bytes u o = record {
-      heading = (here bs 0 r began Sized headed.sized, heads.byte);
-      states =
-          subst (λ N. (k : ℕ) → k < N → StateBytes bs (spot bs (states_from bs) k)) heads.states
-          (here bs (states_from bs) s at_states (λ y n. (k : ℕ) → k < h.states → StateBytes y (spot y n k)) over.walked.each);
-      rules = (rules_over u o).bytes;
-    }
+    pub rules_over : (u : Rules) → Over (drop t.at (bytes_of t)) u → Over (drop (rules_from bs) bs) u
+    rules_over u o = here bs (rules_from bs) t at_rules (λ y n. Over (drop n y) u) o
 
 -- the verdict on the parts together
 module _ (bs : List ℕ) (heading : Passes (heading_at bs 0)) where

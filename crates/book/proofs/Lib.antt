@@ -3,8 +3,6 @@ pub mod States
 pub mod Walks
 pub mod Books
 pub mod Packed
-pub mod Strides
-pub mod Ranks
 pub mod Places
 pub mod Encoded
 pub mod Accepted

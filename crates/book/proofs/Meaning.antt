@@ -1,64 +1,43 @@
 -- The game of the bytes of a content is the game that the content describes.
-use Rattle.std.proofs.Common.{◌≡◌, ℕ, ◌+◌, ◌-◌, ◌*◌, ◌/◌, ◌%◌, ◌<◌, ◌≤◌, max, Bool, true, false, cond, ◌&&◌, eqb, ltb, leb, ◌⊎◌, List, length, get_or, Some, None, Option, sym, refl, ap, ◌∙◌, subst, inl, inr, mod-eq_of_lt, arith, length-append}
+use Rattle.std.proofs.Common.{◌≡◌, ℕ, ◌+◌, ◌-◌, ◌*◌, ◌/◌, ◌%◌, ◌<◌, ◌≤◌, Bool, true, false, cond, ◌&&◌, ltb, leb, List, length, get_or, Some, None, Option, refl, ap, ◌∙◌, mod-eq_of_lt, arith, length-append}
 use mathlib.Core.Path.{fun_ext}
 use Rattle.std.proofs.ByRecursion.{All-get_or}
-use Rattle.std.proofs.lemmas.Bool.{cond-true, and_from, and_parts, le-leb, lt-ltb, leb-true, ltb-true, cases_eq, eq-eqb, ne_eqb, cond-false}
+use Rattle.std.proofs.lemmas.Bool.{cond-true, and_from, and_parts, le-leb, lt-ltb, leb-true, ltb-true}
 use Rattle.game.specs.Lists.{highest, numbers, under}
 use Rattle.game.specs.Made.{made}
-use Rattle.game.specs.Structure.{product, move_of}
+use Rattle.game.specs.Structure.{product}
 use Rattle.game.proofs.Under.{under_box}
-use Rattle.book.specs.Records.{Within, count_in, packed_in}
-use Rattle.book.specs.Fields.{value, spot, Stride}
-use Rattle.book.specs.Layout.{players_in, states_in, start_in, states_from, SameCounts}
-use Rattle.book.specs.Filed.{inside, count_kept, players_kept, states_kept, state_spot, count_at, count_for, moves_kept, labels_at, place, next_at, table_moves, table_labels, table_next, game_of, filed}
-use Rattle.book.specs.Limited.{counts_low, counts_digits, moves_range, product_same}
+use Rattle.book.specs.Records.{Within}
+use Rattle.book.specs.Layout.{players_in, states_in, start_in}
+use Rattle.book.specs.Filed.{inside, count_kept, players_kept, states_kept, state_spot, count_at, moves_at, labels_at, place, next_at, table_moves, table_labels, table_next, game_of, filed}
+use Rattle.book.specs.Limited.{moves_range, product_same}
 use Rattle.book.specs.Content.{State, Content, Below, count, vectors_of, state_value, encode, StateFits, Fits}
 use Rattle.book.specs.Described.{no_state, state, index, moves_in, labels_of, leads_in, described}
 use Rattle.book.proofs.Places.{index_place, vectors_same}
-use Rattle.book.proofs.Ranks.{highest_same}
-use Rattle.book.proofs.Packed.{packed_digit}
-use Rattle.book.proofs.Strides.{state_spot_is}
+use Rattle.book.proofs.Packed.{highest_same}
 use Rattle.book.proofs.Encoded.{FieldAt, value_byte}
-use Rattle.book.proofs.Accepted.{count_there, value_count, next_there, state_there, states_start, players_read, states_read, start_read}
+use Rattle.book.proofs.Accepted.{count_there, next_there, state_there, players_read, states_read, start_read}
 
--- one state, with the counts m that it has, or 0
-module _ (bs : List ℕ) (P N m p : ℕ) (q : State) (f : FieldAt bs p 2 (state_value q)) (h : StateFits P N q) (packed : 0 < m → packed_in P (value bs p) ≡ m) where
+-- one state
+module _ (bs : List ℕ) (P N p : ℕ) (q : State) (f : FieldAt bs p 2 (state_value q)) (h : StateFits P N q) where
   long : length (state_value q) ≡ 2 + P + vectors_of q
   long = omega (arith, length-append q.counts q.nexts, h.counted, h.led)
 
   byte : (i n : ℕ) → i < 2 + P + vectors_of q → n ≡ p + 3 + i → get_or bs n 0 ≡ get_or (state_value q) i 0
   byte i n l e = value_byte bs p 2 (state_value q) f i n (omega (arith, long)) e
 
-  within : (a : ℕ) → 1 ≤ a → a ≤ P → Within 1 15 (count q a)
-  within a l u = All-get_or (Within 1 15) q.counts (a - 1) 0 (omega (arith, h.counted)) h.counts_fit
+  count_same : (a : ℕ) → 1 ≤ a → a ≤ P → count_at bs p a ≡ count q a
+  count_same a l u =
+      let i : a - 1 < length q.counts = omega (arith, h.counted) in
+      let e : get_or bs (p + 4 + a) 0 ≡ count q a = byte (2 + (a - 1)) (p + 4 + a) (omega arith) (omega arith) ∙ count_there q (a - 1) i in
+      let w = All-get_or (Within 1 15) q.counts (a - 1) 0 i h.counts_fit in
+      ap count_kept e ∙ cond-true (leb 1 (count q a) && leb (count q a) 15) (count q a) 1 (and_from _ _ (le-leb 1 (count q a) w.0) (le-leb (count q a) 15 w.1))
 
-  byte_same : (a : ℕ) → 1 ≤ a → a ≤ P → count_at bs p a ≡ count q a
-  byte_same a l u =
-      let e : get_or bs (p + 4 + a) 0 ≡ count q a = byte (2 + (a - 1)) (p + 4 + a) (omega arith) (omega arith) ∙ count_there q (a - 1) (omega (arith, h.counted)) in
-      ap count_kept e ∙ cond-true (leb 1 (count q a) && leb (count q a) 15) (count q a) 1 (and_from _ _ (le-leb 1 (count q a) (within a l u).0) (le-leb (count q a) 15 (within a l u).1))
+  few_vectors : product (count_at bs p) P ≤ 4096
+  few_vectors = omega (arith, product_same (count_at bs p) (count q) P count_same, ap (product (count q)) h.counted, h.few)
 
-  digit_same : (a : ℕ) → 1 ≤ a → a ≤ P → 0 < m → move_of a m ≡ count q a
-  digit_same a l u z =
-      let v : List ℕ = state_value q in
-      let same : (b : ℕ) → 1 ≤ b → b ≤ P → count_in v b ≡ count q b = λ b x y. value_count q b x (omega (arith, h.counted)) in
-      ap (move_of a) (sym (packed z) ∙ ap (packed_in P) f.value_is)
-      ∙ (packed_digit v P a (λ b x y. omega (arith, same b x y, (within b x y).1)) l u
-      ∙ same a l u)
-
-  count_same : (a : ℕ) → 1 ≤ a → a ≤ P → count_for bs m p a ≡ count q a
-  count_same a l u = go (cases_eq m 0)
-    where
-      go : (m ≡ 0) ⊎ (m ≡ 0 → ⊥) → count_for bs m p a ≡ count q a
-      go (inl z) = cond-true (eqb m 0) (count_at bs p a) (max 1 (move_of a m)) (eq-eqb m 0 z) ∙ byte_same a l u
-      go (inr z) =
-          let e : max 1 (move_of a m) ≡ count q a = ap (max 1) (digit_same a l u (omega arith)) ∙ omega (arith, (within a l u).0) in
-          cond-false (eqb m 0) (count_at bs p a) (max 1 (move_of a m)) (ne_eqb m 0 z) ∙ e
-
-  few_vectors : product (count_for bs m p) P ≤ 4096
-  few_vectors = omega (arith, product_same (count_for bs m p) (count q) P count_same, ap (product (count q)) h.counted, h.few)
-
-  pub moves_same : (a : ℕ) → 1 ≤ a → a ≤ P → moves_kept (count_for bs m p) P a ≡ count q a
-  moves_same a l u = cond-true (leb (product (count_for bs m p) P) 4096) (count_for bs m p a) 1 (le-leb _ 4096 few_vectors) ∙ count_same a l u
+  pub moves_same : (a : ℕ) → 1 ≤ a → a ≤ P → moves_at bs P p a ≡ count q a
+  moves_same a l u = cond-true (leb (product (count_at bs p) P) 4096) (count_at bs p a) 1 (le-leb _ 4096 few_vectors) ∙ count_same a l u
 
   pub labels_same : labels_at bs p ≡ q.labels
   labels_same =
@@ -67,21 +46,15 @@ module _ (bs : List ℕ) (P N m p : ℕ) (q : State) (f : FieldAt bs p 2 (state_
       let e : get_or bs (p + 3) 0 * 256 + get_or bs (p + 4) 0 ≡ q.labels = omega arith in
       ap (λ n. n % 65536) e ∙ mod-eq_of_lt h.labelled
 
-  abbrev moves : ℕ → ℕ
-  moves = moves_kept (count_for bs m p) P
+  list_same : numbers (moves_at bs P p) 0 P ≡ numbers (count q) 0 P
+  list_same = vectors_same (moves_at bs P p) (count q) P moves_same
 
-  range : (a : ℕ) → (1 ≤ moves a) × (moves a ≤ 15)
-  range a = moves_range (count_for bs m p) P a (counts_low bs m p a) (counts_digits bs m p a)
-
-  list_same : numbers moves 0 P ≡ numbers (count q) 0 P
-  list_same = vectors_same moves (count q) P moves_same
-
-  pub next_same : (v : ℕ) → under P (highest (moves_kept (count_for bs m p) P) 0 P) v ≡ true → next_at bs (count_for bs m p) P N p v ≡ get_or q.nexts (index v (numbers (count q) 0 P)) 0
+  pub next_same : (v : ℕ) → under P (highest (moves_at bs P p) 0 P) v ≡ true → next_at bs P N p v ≡ get_or q.nexts (index v (numbers (count q) 0 P)) 0
   next_same v u =
-      let i = index_place moves (λ a. (range a).0) (λ a. (range a).1) P v (under_box moves (λ a. (range a).1) 0 P v u) in
+      let i = index_place (moves_at bs P p) (λ a. (moves_range bs P p a).0) (λ a. (moves_range bs P p a).1) P v (under_box (moves_at bs P p) (λ a. (moves_range bs P p a).1) 0 P v u) in
       let j : ℕ = index v (numbers (count q) 0 P) in
-      let at : place P (highest moves 0 P) v ≡ j = i.1 ∙ ap (index v) list_same in
-      let k : j < vectors_of q = omega (arith, i.0, i.1, at, product_same moves (count q) P moves_same, ap (product (count q)) h.counted) in
+      let at : place P (highest (moves_at bs P p) 0 P) v ≡ j = i.1 ∙ ap (index v) list_same in
+      let k : j < vectors_of q = omega (arith, i.0, i.1, at, product_same (moves_at bs P p) (count q) P moves_same, ap (product (count q)) h.counted) in
       let g : get_or bs (p + 5 + P + j) 0 ≡ get_or q.nexts j 0 = byte (2 + P + j) (p + 5 + P + j) (omega arith) (omega arith) ∙ next_there q P j h.counted in
       ap (λ x. inside N (get_or bs (p + 5 + P + x) 0)) at
       ∙ (ap (inside N) g ∙ cond-true (ltb (get_or q.nexts j 0) N) (get_or q.nexts j 0) 0 (lt-ltb _ N (All-get_or (Below N) q.nexts j 0 (omega (arith, h.led)) h.nexts_fit)))
@@ -107,36 +80,24 @@ module _ (P N s : ℕ) (d d' : ℕ → ℕ → ℕ) (l l' : ℕ → ℕ) (t t' :
       (λ e u. ap Some (ht q v (ltb-true q N e) u)))) in
       λ i. record { players = P; states = N; start = s; moves = moves i; labels = labels i; next = next i }
 
--- the whole game, with the length w of its states' fields and their counts m, or 0
-module _ (c : Content) (h : Fits c) (w m : ℕ) (stride : Stride (encode c) (states_from (encode c)) (states_in (encode c)) w) (counts : SameCounts (players_in (encode c)) (encode c) (states_from (encode c)) (states_in (encode c)) m) where
-  module _ (q : ℕ) (l : q < length c.states) where
-    stands : state_spot (encode c) w q ≡ spot (encode c) (states_from (encode c)) q
-    stands = state_spot_is (encode c) (states_in (encode c)) w q (states_start c h) stride (omega (arith, states_read c h))
+-- the whole game
+module _ (c : Content) (h : Fits c) where
+  there : (q : ℕ) → q < length c.states → FieldAt (encode c) (state_spot (encode c) q) 2 (state_value (state c q)) × StateFits c.players (length c.states) (state c q)
+  there q l = (state_there c h q l, All-get_or (StateFits c.players (length c.states)) c.states q no_state l h.each_state)
 
-    there : FieldAt (encode c) (state_spot (encode c) w q) 2 (state_value (state c q))
-    there = subst (λ p. FieldAt (encode c) p 2 (state_value (state c q))) (sym stands) (state_there c h q l)
-
-    fits : StateFits c.players (length c.states) (state c q)
-    fits = All-get_or (StateFits c.players (length c.states)) c.states q no_state l h.each_state
-
-    packed : 0 < m → packed_in c.players (value (encode c) (state_spot (encode c) w q)) ≡ m
-    packed z =
-        subst (λ P. packed_in P (value (encode c) (state_spot (encode c) w q)) ≡ m) (players_read c h)
-        (subst (λ p. packed_in (players_in (encode c)) (value (encode c) p) ≡ m) (sym stands) (counts.same z q (omega (arith, states_read c h))))
-
-  game_described : game_of (encode c) w m c.players (length c.states) c.start ≡ described c
+  game_described : game_of (encode c) c.players (length c.states) c.start ≡ described c
   game_described =
       let bs : List ℕ = encode c in
       let P : ℕ = c.players in
       let N : ℕ = length c.states in
-      ap (λ s. made P N s (table_moves bs w m P) (table_labels bs w) (table_next bs w m P N)) (cond-true (ltb c.start N) c.start 0 (lt-ltb c.start N h.started))
-      ∙ made_same P N c.start (table_moves bs w m P) (moves_in c) (table_labels bs w) (labels_of c) (table_next bs w m P N) (leads_in c)
-      (λ a q x y l. moves_same bs P N m (state_spot bs w q) (state c q) (there q l) (fits q l) (packed q l) a x y)
-      (λ q l. labels_same bs P N m (state_spot bs w q) (state c q) (there q l) (fits q l) (packed q l))
-      (λ q v l u. next_same bs P N m (state_spot bs w q) (state c q) (there q l) (fits q l) (packed q l) v u)
+      ap (λ s. made P N s (table_moves bs P) (table_labels bs) (table_next bs P N)) (cond-true (ltb c.start N) c.start 0 (lt-ltb c.start N h.started))
+      ∙ made_same P N c.start (table_moves bs P) (moves_in c) (table_labels bs) (labels_of c) (table_next bs P N) (leads_in c)
+      (λ a q x y l. moves_same bs P N (state_spot bs q) (state c q) (there q l).0 (there q l).1 a x y)
+      (λ q l. labels_same bs P N (state_spot bs q) (state c q) (there q l).0 (there q l).1)
+      (λ q v l u. next_same bs P N (state_spot bs q) (state c q) (there q l).0 (there q l).1 v u)
 
-pub filed_described : (c : Content) → Fits c → (P N s w m : ℕ) → P ≡ players_in (encode c) → N ≡ states_in (encode c) → s ≡ start_in (encode c) → Stride (encode c) (states_from (encode c)) (states_in (encode c)) w → SameCounts (players_in (encode c)) (encode c) (states_from (encode c)) (states_in (encode c)) m → filed (encode c) P N s w m ≡ described c
-filed_described c h P N s w m p n z stride counts =
-    let p' : players_kept P ≡ c.players = omega (arith, players_read c h, h.players_fit) in
-    let n' : states_kept N ≡ length c.states = omega (arith, states_read c h, h.states_fit) in
-    ap (λ x. game_of (encode c) w m x (states_kept N) s) p' ∙ (ap (λ x. game_of (encode c) w m c.players x s) n' ∙ (ap (game_of (encode c) w m c.players (length c.states)) (z ∙ start_read c h) ∙ game_described c h w m stride counts))
+  pub filed_described : (P N s : ℕ) → P ≡ players_in (encode c) → N ≡ states_in (encode c) → s ≡ start_in (encode c) → filed (encode c) P N s ≡ described c
+  filed_described P N s p n z =
+      let p' : players_kept P ≡ c.players = omega (arith, players_read c h, h.players_fit) in
+      let n' : states_kept N ≡ length c.states = omega (arith, states_read c h, h.states_fit) in
+      ap (λ x. game_of (encode c) x (states_kept N) s) p' ∙ (ap (λ x. game_of (encode c) c.players x s) n' ∙ (ap (game_of (encode c) c.players (length c.states)) (z ∙ start_read c h) ∙ game_described))

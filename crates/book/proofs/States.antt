@@ -1,10 +1,10 @@
 -- The steps of the tests of a state.
-use Rattle.std.proofs.Common.{◌≡◌, ℕ, ◌+◌, ◌*◌, ◌^◌, ◌<◌, ◌≤◌, List, length, get_or, sym, ap, ◌∙◌, subst, inr, le_trans, mul-le-mul, add-one, arith, lit<}
+use Rattle.std.proofs.Common.{◌≡◌, ℕ, ◌+◌, ◌*◌, ◌^◌, ◌<◌, ◌≤◌, List, length, get_or, Ok, Err, Result, sym, ap, ◌∙◌, subst, inr, le_trans, mul-le-mul, add-one, arith, lit<}
 use native.Mathlib.Nat.{pow-succ', pow-le-pow_right}
 use Rattle.game.specs.Structure.{product}
 use Rattle.book.specs.declared.fault.Fault.{Fault}
 use Rattle.book.specs.declared.field.Field.{Field}
-use Rattle.book.specs.Tests.{Passes, Fails, each}
+use Rattle.book.specs.Tests.{Passes, Fails, Judged, Anything, each}
 use Rattle.book.specs.Records.{state_tests, vectors_tests, count_tests, next_tests, product_in, count_in}
 use Rattle.book.proofs.Judging.{passes-++, fails_left, fails_right}
 
@@ -36,13 +36,10 @@ module _ (P N : ℕ) (x : Field) (tag : x.tag ≡ 2) (least : 2 + P ≤ length x
     pub bad_vectors : (f : Fault) → Fails (vectors_tests P N x.value.now x.at) f → Fails (state_tests P N x.tag x.value.now x.at) f
     bad_vectors f e = inr (tag, inr (least, fails_right (each P (count_tests x.value.now x.at)) _ f counts e))
 
-    pub good_vectors : Passes (vectors_tests P N x.value.now x.at) → Passes (state_tests P N x.tag x.value.now x.at)
-    good_vectors h = (tag, (least, passes-++ (each P (count_tests x.value.now x.at)) _ counts h))
+    pub good_vectors : (r : Result (Unit {0}) Fault) → Judged (vectors_tests P N x.value.now x.at) r Anything → Judged (state_tests P N x.tag x.value.now x.at) r Anything
+    good_vectors (Ok u) j = ((tag, (least, passes-++ (each P (count_tests x.value.now x.at)) _ counts j.0)), tt)
+    good_vectors (Err f) j = bad_vectors f j
 
--- n is the product of the counts, and the length is right
-module _ (P N n : ℕ) (v : List ℕ) (p : ℕ) (e : n ≡ product_in P v) (few : n ≤ 4096) (exact : length v ≡ 2 + P + n) where
-  pub bad_nexts : (f : Fault) → Fails (each n (next_tests P N v p)) f → Fails (vectors_tests P N v p) f
-  bad_nexts f j = inr (omega arith, inr (omega arith, subst (λ k. Fails (each k (next_tests P N v p)) f) e j))
-
-  pub good_nexts : Passes (each n (next_tests P N v p)) → Passes (vectors_tests P N v p)
-  good_nexts j = (omega arith, (omega arith, subst (λ k. Passes (each k (next_tests P N v p))) e j))
+pub nexts_judged : (P N n : ℕ) (v : List ℕ) (p : ℕ) → n ≡ product_in P v → n ≤ 4096 → length v ≡ 2 + P + n → (r : Result (Unit {0}) Fault) → Judged (each n (next_tests P N v p)) r Anything → Judged (vectors_tests P N v p) r Anything
+nexts_judged P N n v p e few exact (Ok u) j = ((omega arith, (omega arith, subst (λ k. Passes (each k (next_tests P N v p))) e j.0)), tt)
+nexts_judged P N n v p e few exact (Err f) j = inr (omega arith, inr (omega arith, subst (λ k. Fails (each k (next_tests P N v p)) f) e j))

@@ -1,13 +1,12 @@
 -- The walk of a reader over the fields.
-use Rattle.std.proofs.Common.{◌≡◌, ℕ, zero, suc, ◌+◌, ◌*◌, ◌<◌, ◌≤◌, ◌⊎◌, List, length, sym, refl, ap, ◌∙◌, subst, inl, inr, add-one, arith, below_more}
+use Rattle.std.proofs.Common.{◌≡◌, ℕ, zero, suc, ◌+◌, ◌*◌, ◌<◌, ◌≤◌, ◌⊎◌, List, length, sym, ap, ◌∙◌, subst, inl, inr, add-one, arith}
 use Rattle.std.proofs.lemmas.Bool.{cases_lt}
 use Rattle.book.specs.declared.fault.Fault.{Fault}
 use Rattle.book.specs.declared.field.FieldReader.{FieldReader}
 use Rattle.book.specs.Tests.{Passes, Fails, each}
 use Rattle.book.specs.Fields.{after, spot}
 use Rattle.book.specs.Layout.{state_at, rule_at, states_tests, rules_tests, all_rules}
-use Rattle.book.specs.Bytes.{RuleBytes, RulesBytes}
-use Rattle.book.specs.Readers.{bytes_of, Stands, Passed, Walked}
+use Rattle.book.specs.Readers.{bytes_of, Stands, Passed}
 use Rattle.book.proofs.Judging.{each_more, each_stop, each_all, each_at, if_passes, if_fails}
 
 pub spot_grows : (bs : List ℕ) (p k : ℕ) → p + 3 * k ≤ spot bs p k
@@ -65,26 +64,3 @@ module _ (bs : List ℕ) (p k : ℕ) (r : FieldReader) (h : Stands bs (spot bs p
         go i (inr s) =
             if_passes (spot bs p i < length bs) (rule_at bs (spot bs p i)) (λ c.
             absurd (omega (arith, spot_later bs p k i s, here bs (spot bs p k) r h (λ x n. length x ≤ n) l)))
-
--- what is learned on the walk
-pub walked_none : (F : List ℕ → ℕ → Type 0) (r : FieldReader) → r.at ≤ length (bytes_of r) → Walked F 0 r r
-walked_none F r l = record { stands = record { over = refl; place = refl }; whole = l; each = λ k u. absurd (omega arith) }
-
-module _ (F : List ℕ → ℕ → Type 0) (k : ℕ) (r s : FieldReader) (w : Walked F k r s) where
-  pub walked_more : (t : FieldReader) → Passed s t → after (bytes_of s) s.at ≤ length (bytes_of s) → F (bytes_of s) s.at → Walked F (k + 1) r t
-  walked_more t p l f =
-      let bs : List ℕ = bytes_of r in
-      let q : ℕ = spot (bytes_of r) r.at k in
-      record {
-        stands = step bs r.at k s w.stands t p;
-        whole = omega (arith, p.place, ap length w.stands.over);
-        each = below_more _ _ w.each (here bs q s w.stands F f);
-      }
-
--- a walk that came to the end has met each rule that is there
-pub rules_learned : (k : ℕ) (r s : FieldReader) → Walked RuleBytes k r s → length (bytes_of s) ≤ s.at → RulesBytes (bytes_of r) r.at
-rules_learned k r s w l i u = w.each i (go (cases_lt i k))
-  where
-    go : (i < k) ⊎ (k ≤ i) → i < k
-    go (inl s) = s
-    go (inr s) = absurd (omega (arith, spot_later (bytes_of r) r.at k i s, w.stands.place, ap length w.stands.over))

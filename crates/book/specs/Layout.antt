@@ -3,8 +3,8 @@ use Rattle.std.specs.Prelude.{ℕ, ◌+◌, ◌<◌, ◌≤◌, List, [], ◌∷
 use Rattle.book.specs.declared.fault.Cause.TheVariants.{TooLong}
 use Rattle.book.specs.Faults.{fault}
 use Rattle.book.specs.Tests.{Tests, each, If}
-use Rattle.book.specs.Fields.{value, after, field_tests, due_tests, spot, OneValue}
-use Rattle.book.specs.Records.{heading_tests, state_tests, rule_tests, packed_in}
+use Rattle.book.specs.Fields.{value, after, field_tests, due_tests, spot}
+use Rattle.book.specs.Records.{heading_tests, state_tests, rule_tests}
 
 -- the heading, a state and a rule, in the field at p
 abbrev pub heading_at : List ℕ → ℕ → Tests
@@ -29,14 +29,6 @@ start_in bs = slice_index (value bs 0) 2
 -- state k, from 0, of those that begin at p
 abbrev pub states_tests : ℕ → ℕ → List ℕ → ℕ → ℕ → Tests
 states_tests P N bs p k = state_at P N bs (spot bs p k)
-
--- its counts, of P players
-abbrev pub counts_of : ℕ → List ℕ → ℕ → ℕ → ℕ
-counts_of P bs p k = packed_in P (value bs (spot bs p k))
-
--- m is the counts that all the n states from p on have, or 0 where they have not the same
-abbrev pub SameCounts : ℕ → List ℕ → ℕ → ℕ → ℕ → Type 0
-SameCounts P bs p n m = OneValue (counts_of P bs p) n m
 
 -- rule k, from 0, of those that begin at p: it is there only if the bytes go on
 abbrev pub rules_tests : List ℕ → ℕ → ℕ → Tests

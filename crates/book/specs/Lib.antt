@@ -4,7 +4,6 @@ pub mod Fields
 pub mod Records
 pub mod Layout
 pub mod Content
-pub mod Bytes
 pub mod Told
 pub mod Filed
 pub mod Limited

@@ -1,9 +1,6 @@
 -- The three records, by tag and value, each with its tests in their order; p is the byte of the field's tag.
 use Rattle.std.specs.Prelude.{◌≡◌, ℕ, ◌+◌, ◌*◌, ◌<◌, ◌≤◌, List, [], ◌∷◌, ◌++◌, length, slice_index}
-use Rattle.game.specs.Lists.{highest}
 use Rattle.game.specs.Structure.{product}
-use Rattle.book.specs.declared.record.MoveCounts.{MoveCounts}
-use Rattle.book.specs.declared.rules.RuleField.{RuleField}
 use Rattle.book.specs.declared.fault.Cause.TheVariants.{OtherTag, WrongLength, OutOfRange}
 use Rattle.book.specs.Faults.{fault}
 use Rattle.book.specs.Tests.{Tests, each}
@@ -31,14 +28,9 @@ count_in v a = slice_index v (1 + a)
 abbrev pub product_in : ℕ → List ℕ → ℕ
 product_in P v = product (count_in v) P
 
--- all the counts in one number, four bits a player, player 1's the lowest
-abbrev pub packed_in : ℕ → List ℕ → ℕ
-packed_in P v = highest (count_in v) 0 P
-
--- c is their product and that number
-pub record Counted (P : ℕ) (v : List ℕ) (c : MoveCounts) : Type 0 where
-  pub multiplied : c.product ≡ product_in P v
-  pub packed : c.packed ≡ packed_in P v
+-- n is that product
+abbrev pub Multiplied : ℕ → List ℕ → ℕ → Type 0
+Multiplied P v n = n ≡ product_in P v
 
 abbrev pub next_in : ℕ → List ℕ → ℕ → ℕ
 next_in P v j = slice_index v (2 + P + j)
@@ -62,6 +54,3 @@ state_tests P N t v p = (t ≡ 2, fault OtherTag p) ∷ (2 + P ≤ length v, fau
 -- a rule's value: kind, group, r, s
 abbrev pub rule_tests : ℕ → List ℕ → ℕ → Tests
 rule_tests t v p = (t ≡ 3, fault OtherTag p) ∷ (length v ≡ 4, fault WrongLength p) ∷ []
-
-abbrev pub rule_of : List ℕ → RuleField
-rule_of v = record { kind = slice_index v 0; group = slice_index v 1; r = slice_index v 2; s = slice_index v 3 }

@@ -1,23 +1,15 @@
 // The whole book.
-ghost use Rattle.std.specs.Prelude.{◌≡◌, ◌≤◌, length};
+ghost use Rattle.std.specs.Prelude.{◌≡◌, ◌≤◌, length, drop};
 ghost use Rattle.book.specs.Tests.{Judged, each, Anything, OneVerdict};
 ghost use Rattle.book.specs.Layout.{states_tests, all_rules, length_tests, parts_tests, book_tests, list_tests};
-ghost use Rattle.book.specs.Readers.{bytes_of, unread, Stands, Over, ReadOver, WentOver, FiledFrom, Read_from};
+ghost use Rattle.book.specs.Readers.{bytes_of, unread, Stands, Over, WentOver, FiledFrom};
 ghost use Rattle.book.specs.Reading.{Read, OneContent, ReadRules, OneList};
 
 use crate::fault::{Cause, Fault};
-use crate::field::{FieldReader, one_value};
+use crate::field::{FieldReader, largest};
 use crate::filed::FiledBook;
 use crate::record::RecordReader;
 use crate::rules::Rules;
-
-// What the states of a book have in common: the length of their fields, and their counts of moves, four bits a player. Each is 0 where
-// they differ in it.
-#[derive(Clone, Copy)]
-struct Common {
-    stride: u32,
-    counts: u32,
-}
 
 // Reads the parts of a book, one after another.
 #[derive(Drop)]
@@ -35,26 +27,21 @@ impl<'a> BookReader<'a> {
         }
     }
 
-    // The states, from here on: what they have in common.
-    fn states(&mut self, players: u8, states: u16) -> Result<Common, Fault>
+    // The states, from here on.
+    fn states(&mut self, players: u8, states: u16) -> Result<(), Fault>
         requires { (self.old.records.fields.at ≤ length (bytes_of self.old.records.fields)) × ((length (bytes_of self.old.records.fields) ≤ 65535) × (players ≤ 6)) }
-        ensures { Judged (each states (states_tests players states (bytes_of self.old.records.fields) self.old.records.fields.at)) result (λ c. WentOver players states self.old.records.fields self.new.records.fields c.stride c.counts) }
+        ensures { Judged (each states (states_tests players states (bytes_of self.old.records.fields) self.old.records.fields.at)) result (WentOver states self.old.records.fields self.new.records.fields) }
     {
-        let mut stride: u32 = 0;
-        let mut counts: u32 = 0;
-        for k in 0..states {
-            let start = self.records.fields.at;
-            let state = self.records.state(players, states)?;
-            stride = one_value(k, stride, (self.records.fields.at - start) as u32);
-            counts = one_value(k, counts, state.counts);
+        for _k in 0..states {
+            self.records.state(players, states)?;
         }
-        Ok(Common { stride, counts })
+        Ok(())
     }
 
     // The rules, from here to the end.
     fn rules(&mut self) -> Result<Rules<'a>, Fault>
         requires { self.old.records.fields.at ≤ length (bytes_of self.old.records.fields) }
-        ensures { Judged (all_rules (bytes_of self.old.records.fields) self.old.records.fields.at) result (ReadOver (bytes_of self.old.records.fields) self.old.records.fields.at) }
+        ensures { Judged (all_rules (bytes_of self.old.records.fields) self.old.records.fields.at) result (Over (drop self.old.records.fields.at (bytes_of self.old.records.fields))) }
     {
         let rules = Rules {
             bytes: &self.records.fields.bytes[self.records.fields.at..],
@@ -68,19 +55,17 @@ impl<'a> BookReader<'a> {
     // The heading, the states and the rules.
     fn book(&mut self) -> Result<FiledBook<'a>, Fault>
         requires { (self.old.records.fields.at ≡ 0) × (length (bytes_of self.old.records.fields) ≤ 65535) }
-        ensures { Judged (parts_tests (bytes_of self.old.records.fields)) result (Read_from (bytes_of self.old.records.fields)) }
+        ensures { Judged (parts_tests (bytes_of self.old.records.fields)) result (FiledFrom (bytes_of self.old.records.fields)) }
     {
         let bytes = self.records.fields.bytes;
         let heading = self.records.heading()?;
-        let common = self.states(heading.players, heading.states)?;
+        self.states(heading.players, heading.states)?;
         let rules = self.rules()?;
         Ok(FiledBook {
             bytes,
             players: heading.players,
             states: heading.states,
             start: heading.start,
-            stride: common.stride,
-            counts: common.counts,
             rules,
         })
     }
@@ -110,6 +95,7 @@ impl<'a> UnreadBook<'a> {
         ensures content { Read (unread self.now) result }
         ensures one_content { OneContent (unread self.now) }
     {
+        let _ = largest(self.bytes);
         short_enough(self.bytes)?;
         BookReader::new(self.bytes).book()
     }
@@ -122,6 +108,7 @@ pub fn read_rules(bytes: &[u8]) -> Result<Rules<'_>, Fault>
     ensures content { ReadRules bytes.now result }
     ensures one_list { OneList bytes.now }
 {
+    let _ = largest(bytes);
     short_enough(bytes)?;
     BookReader::new(bytes).rules()
 }

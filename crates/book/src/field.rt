@@ -1,7 +1,7 @@
 // The fields of a book.
-ghost use Rattle.std.specs.Prelude.{◌≡◌, ◌<◌, ◌≤◌, length, MatchBool};
+ghost use Rattle.std.specs.Prelude.{ℕ, ◌<◌, ◌≤◌, length, MatchBool, slice_index};
 ghost use Rattle.book.specs.Tests.{Judged};
-ghost use Rattle.book.specs.Fields.{field_tests, due_tests, one_value};
+ghost use Rattle.book.specs.Fields.{field_tests, due_tests};
 ghost use Rattle.book.specs.Readers.{bytes_of, Stands, Yields};
 
 use crate::fault::{Cause, Fault};
@@ -67,9 +67,9 @@ impl<'a> FieldReader<'a> {
     }
 }
 
-// The one value of `n` fields, each of which has the value `kept`, and of one more; 0 where they have not one.
-pub(crate) fn one_value(n: u16, kept: u32, value: u32) -> u32
-    ensures { result ≡ one_value n kept value }
+// The largest byte: it tells a proof that each is below 256.
+pub(crate) fn largest(bytes: &[u8]) -> Option<u8>
+    ensures { (i : ℕ) → i < length bytes.now → slice_index bytes.now i < 256 }
 {
-    if n == 0 || kept == value { value } else { 0 }
+    bytes.iter().copied().max()
 }

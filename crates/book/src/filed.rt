@@ -1,52 +1,42 @@
 // A book that was read, as a game.
-ghost use Rattle.std.specs.Prelude.{◌≡◌, ◌+◌, ◌-◌, ◌*◌, ◌/◌, ◌%◌, ◌^◌, ◌<◌, ◌≤◌, if◌then◌else◌, slice_index};
-ghost use Rattle.book.specs.Fields.{after as after_of, spot as spot_of};
-ghost use Rattle.book.specs.Filed.{players_kept, states_kept, inside as inside_of, state_spot, count_at, count_for, moves_kept, rank as rank_of, found as found_of};
+ghost use Rattle.std.specs.Prelude.{◌≡◌, ◌+◌, ◌^◌, ◌<◌, ◌≤◌, slice_index};
+ghost use Rattle.game.specs.Lists.{highest};
+ghost use Rattle.book.specs.Fields.{after as after_of};
+ghost use Rattle.book.specs.Filed.{players_kept, states_kept, inside as inside_of, state_spot, count_at, moves_at, place as place_of};
 ghost use Rattle.book.specs.Readers.{game_in, limits_in, told};
 
 use crate::rules::Rules;
-use game::Game;
+use game::{Game, is_under};
 
-// The bytes of a book, what its heading says, and how far apart its states stand and which counts of moves they have where all have the
-// same. It is a game whatever these are: what is out of range reads as something in range.
+// The bytes of a book and what its heading says. It is a game whatever these are: what is out of range reads as something in
+// range.
 #[derive(Drop)]
 pub struct FiledBook<'a> {
     pub(crate) bytes: &'a [u8],
     pub(crate) players: u8,
     pub(crate) states: u16,
     pub(crate) start: u8,
-    // The length of each state's field, or 0 where they have not one length.
-    pub(crate) stride: u32,
-    // The counts of each state, four bits a player, player 1's the lowest, or 0 where they have not the same.
-    pub(crate) counts: u32,
     pub(crate) rules: Rules<'a>,
 }
 
-// The player's four bits of a number.
-fn digit(number: u32, player: u8) -> u32
-    requires { (1 ≤ player) × (player ≤ 6) }
-    ensures { result ≡ number / 2 ^ (4 * (player - 1)) % 16 }
+// A vector's place among those under the highest: player 1's move counts fastest.
+fn place(players: u8, most: u32, vector: u32) -> u32
+    requires { players ≤ 6 }
+    ensures is { result ≡ place_of players most vector }
+    ensures near { result < 2 ^ 24 }
 {
-    (number >> (4 * (player - 1))) % 16
-}
-
-// What the digits of a vector came to: its place among the counts as they stand, if nothing is left of it. Where their product is too
-// large, each player has one move, and only place 0 is a vector's.
-fn found(place: u32, product: u32, rest: u32) -> Option<u32>
-    ensures { result ≡ found_of place product rest }
-{
-    if rest == 0 && (product <= 4096 || place == 0) {
-        Some(place)
-    } else {
-        None
+    let mut place: u32 = 0;
+    let mut weight: u32 = 1;
+    let mut limits = most;
+    let mut rest = vector;
+    for _i in 0..players {
+        let before = (rest % 16).max(1) - 1;
+        place += before * weight;
+        weight *= limits % 16;
+        limits /= 16;
+        rest /= 16;
     }
-}
-
-// The one where the test holds, else the other.
-fn either(test: bool, one: u8, other: u8) -> u8
-    ensures { result ≡ (if test then one else other) }
-{
-    if test { one } else { other }
+    place
 }
 
 impl<'a> FiledBook<'a> {
@@ -99,9 +89,9 @@ impl<'a> FiledBook<'a> {
         at + 3 + (self.byte(at + 1) as usize * 256 + self.byte(at + 2) as usize)
     }
 
-    // Where the state's field stands, found field by field.
-    fn walked(&self, state: u8) -> usize
-        ensures is { result ≡ spot_of self.now.bytes.now (after_of self.now.bytes.now 0) state }
+    // Where the state's field stands.
+    fn spot(&self, state: u8) -> usize
+        ensures is { result ≡ state_spot self.now.bytes.now state }
         ensures near { result < 2 ^ 32 }
     {
         let mut at = self.after(0);
@@ -111,21 +101,8 @@ impl<'a> FiledBook<'a> {
         at
     }
 
-    // Where the state's field stands. The heading of a book has six bytes.
-    fn spot(&self, state: u8) -> usize
-        ensures is { result ≡ state_spot self.now.bytes.now self.now.stride state }
-        ensures near { result < 2 ^ 48 }
-    {
-        if self.stride == 0 {
-            self.walked(state)
-        } else {
-            6 + state as usize * self.stride as usize
-        }
-    }
-
-    // The count that stands in the state field at `at`.
-    fn count_there(&self, at: usize, player: u8) -> u8
-        requires { at < 2 ^ 48 }
+    fn count(&self, at: usize, player: u8) -> u8
+        requires { at < 2 ^ 32 }
         ensures is { result ≡ count_at self.now.bytes.now at player }
         ensures range { (1 ≤ result) × (result ≤ 15) }
     {
@@ -133,53 +110,23 @@ impl<'a> FiledBook<'a> {
         if 1 <= count && count <= 15 { count } else { 1 }
     }
 
-    // The count of the player in the state whose field is at `at`.
-    fn count(&self, at: usize, player: u8) -> u8
-        requires { (at < 2 ^ 48) × ((1 ≤ player) × (player ≤ 6)) }
-        ensures is { result ≡ count_for self.now.bytes.now self.now.counts at player }
-        ensures range { (1 ≤ result) × (result ≤ 15) }
+    // The counts of the state whose field is at `at`, four bits a player, each read once.
+    fn most(&self, at: usize) -> u32
+        requires { at < 2 ^ 32 }
+        ensures { result ≡ highest (moves_at self.now.bytes.now (players_kept self.now.players) at) 0 (players_kept self.now.players) }
     {
-        if self.counts == 0 {
-            self.count_there(at, player)
-        } else {
-            digit(self.counts, player).max(1) as u8
-        }
-    }
-
-    // The moves of a player there, each count read once: all count 1 where there would be too many vectors.
-    fn moves_at(&self, at: usize, player: u8) -> u8
-        requires { (at < 2 ^ 48) × ((1 ≤ player) × (player ≤ players_kept self.now.players)) }
-        ensures { result ≡ moves_kept (count_for self.now.bytes.now self.now.counts at) (players_kept self.now.players) player }
-    {
+        let mut most: u32 = 0;
+        let mut ones: u32 = 0;
         let mut product: u32 = 1;
-        let mut own: u8 = 1;
-        for i in 0..self.player_count() {
-            let count = self.count(at, i + 1);
-            own = either(i + 1 == player, count, own);
-            product = count as u32 * product;
-        }
-        either(product <= 4096, own, 1)
-    }
-
-    // The place of a vector there among all, if it is one: player 1's move counts fastest.
-    fn rank(&self, at: usize, vector: u32) -> Option<u32>
-        requires { at < 2 ^ 48 }
-        ensures { result ≡ rank_of (count_for self.now.bytes.now self.now.counts at) (players_kept self.now.players) vector }
-    {
-        let mut place: u32 = 0;
         let mut weight: u32 = 1;
-        let mut rest = vector;
         for i in 0..self.player_count() {
             let count = self.count(at, i + 1) as u32;
-            let digit = rest % 16;
-            if digit < 1 || digit > count {
-                return None;
-            }
-            place += (digit - 1) * weight;
-            weight *= count;
-            rest /= 16;
+            most += count * weight;
+            ones += weight;
+            product = count * product;
+            weight *= 16;
         }
-        found(place, weight, rest)
+        if product <= 4096 { most } else { ones }
     }
 }
 
@@ -198,7 +145,7 @@ impl Game for FiledBook<'_> {
 
     fn moves(&self, player: u8, state: u8) -> u8 {
         if 1 <= player && player <= self.player_count() && (state as u16) < self.state_count() {
-            self.moves_at(self.spot(state), player)
+            ((self.most(self.spot(state)) >> (4 * (player - 1))) % 16) as u8
         } else {
             0
         }
@@ -218,8 +165,12 @@ impl Game for FiledBook<'_> {
             return None;
         }
         let at = self.spot(state);
-        let place = self.rank(at, vector)?;
-        let next = self.byte(at + 5 + self.player_count() as usize + place as usize);
+        let players = self.player_count();
+        let most = self.most(at);
+        if !is_under(players, most, vector) {
+            return None;
+        }
+        let next = self.byte(at + 5 + players as usize + place(players, most, vector) as usize);
         Some(self.inside(next))
     }
 }

@@ -1,13 +1,12 @@
 // The records of a book: what the value of a field says.
 ghost use Rattle.std.specs.Prelude.{◌≡◌, ◌+◌, ◌≤◌, length};
 ghost use Rattle.book.specs.Tests.{Judged, each, Anything};
-ghost use Rattle.book.specs.Records.{heading_tests, state_tests, rule_tests, count_tests, next_tests, Counted};
+ghost use Rattle.book.specs.Records.{heading_tests, state_tests, rule_tests, count_tests, next_tests, Multiplied};
 ghost use Rattle.book.specs.Layout.{heading_at, state_at, rule_at};
-ghost use Rattle.book.specs.Readers.{bytes_of, Heads, SaysState, SaysRule, Recorded};
+ghost use Rattle.book.specs.Readers.{bytes_of, Heads, Headed, Went};
 
 use crate::fault::{Cause, Fault};
 use crate::field::{Field, FieldReader};
-use crate::rules::RuleField;
 
 #[derive(Clone, Copy)]
 pub(crate) struct Heading {
@@ -44,9 +43,9 @@ impl Heading {
     }
 }
 
-// A rule: its four bytes.
-fn rule(field: Field<'_>) -> Result<RuleField, Fault>
-    ensures { Judged (rule_tests field.entry.tag field.entry.value.now field.entry.at) result (SaysRule field.entry.value.now) }
+// A rule has four bytes.
+fn rule(field: Field<'_>) -> Result<(), Fault>
+    ensures { Judged (rule_tests field.entry.tag field.entry.value.now field.entry.at) result Anything }
 {
     if field.tag != 3 {
         return Err(Fault::at(Cause::OtherTag, field.at));
@@ -54,36 +53,23 @@ fn rule(field: Field<'_>) -> Result<RuleField, Fault>
     if field.value.len() != 4 {
         return Err(Fault::at(Cause::WrongLength, field.at));
     }
-    let kind = field.value[0];
-    let group = field.value[1];
-    let r = field.value[2];
-    let s = field.value[3];
-    Ok(RuleField { kind, group, r, s })
+    Ok(())
 }
 
-// The counts of moves of a state: their product, and all in one number, four bits a player.
-#[derive(Clone, Copy)]
-struct MoveCounts {
-    product: usize,
-    packed: u32,
-}
-
-// The counts, where each is in range.
-fn counts(players: u8, field: Field<'_>) -> Result<MoveCounts, Fault>
+// The product of the counts of moves.
+fn counts(players: u8, field: Field<'_>) -> Result<usize, Fault>
     requires { (players ≤ 6) × ((field.at ≤ 65535) × (2 + players ≤ length field.value.now)) }
-    ensures { Judged (each players (count_tests field.entry.value.now field.entry.at)) result (Counted players field.entry.value.now) }
+    ensures { Judged (each players (count_tests field.entry.value.now field.entry.at)) result (Multiplied players field.entry.value.now) }
 {
     let mut product: usize = 1;
-    let mut packed: u32 = 0;
     for i in 0..players as usize {
         let count = field.value[2 + i];
         if count < 1 || count > 15 {
             return Err(Fault::at(Cause::OutOfRange, field.at + 5 + i));
         }
         product = count as usize * product;
-        packed += (count as u32) << (4 * i);
     }
-    Ok(MoveCounts { product, packed })
+    Ok(product)
 }
 
 // Each next state is one of the game's.
@@ -100,17 +86,9 @@ fn nexts(players: u8, states: u16, product: usize, field: Field<'_>) -> Result<(
     Ok(())
 }
 
-// What is kept of a state: its labels, and its counts of moves, four bits a player.
-#[derive(Clone, Copy)]
-pub(crate) struct StateField {
-    pub(crate) labels: u16,
-    pub(crate) counts: u32,
-}
-
-// A state, where all of it is in range.
-fn state(players: u8, states: u16, field: Field<'_>) -> Result<StateField, Fault>
+fn state(players: u8, states: u16, field: Field<'_>) -> Result<(), Fault>
     requires { (players ≤ 6) × (field.at ≤ 65535) }
-    ensures { Judged (state_tests players states field.entry.tag field.entry.value.now field.entry.at) result (SaysState players field.entry.value.now) }
+    ensures { Judged (state_tests players states field.entry.tag field.entry.value.now field.entry.at) result Anything }
 {
     if field.tag != 2 {
         return Err(Fault::at(Cause::OtherTag, field.at));
@@ -119,18 +97,14 @@ fn state(players: u8, states: u16, field: Field<'_>) -> Result<StateField, Fault
     if field.value.len() < least {
         return Err(Fault::at(Cause::WrongLength, field.at));
     }
-    let counts = counts(players, field)?;
-    if counts.product > 4096 {
+    let product = counts(players, field)?;
+    if product > 4096 {
         return Err(Fault::at(Cause::OutOfRange, field.at + 5));
     }
-    if field.value.len() != least + counts.product {
+    if field.value.len() != least + product {
         return Err(Fault::at(Cause::WrongLength, field.at));
     }
-    nexts(players, states, counts.product, field)?;
-    Ok(StateField {
-        labels: field.value[0] as u16 * 256 + field.value[1] as u16,
-        counts: counts.packed,
-    })
+    nexts(players, states, product, field)
 }
 
 // Reads the records of the fields, one after another.
@@ -142,22 +116,22 @@ pub(crate) struct RecordReader<'a> {
 impl RecordReader<'_> {
     pub(crate) fn heading(&mut self) -> Result<Heading, Fault>
         requires { self.old.fields.at ≤ 65535 }
-        ensures { Judged (heading_at (bytes_of self.old.fields) self.old.fields.at) result (Recorded Heads self.old.fields self.new.fields) }
+        ensures { Judged (heading_at (bytes_of self.old.fields) self.old.fields.at) result (Headed self.old.fields self.new.fields) }
     {
         let field = self.fields.due()?;
         Heading::read(field)
     }
 
-    pub(crate) fn state(&mut self, players: u8, states: u16) -> Result<StateField, Fault>
+    pub(crate) fn state(&mut self, players: u8, states: u16) -> Result<(), Fault>
         requires { (self.old.fields.at ≤ 65535) × (players ≤ 6) }
-        ensures { Judged (state_at players states (bytes_of self.old.fields) self.old.fields.at) result (Recorded (SaysState players) self.old.fields self.new.fields) }
+        ensures { Judged (state_at players states (bytes_of self.old.fields) self.old.fields.at) result (Went self.old.fields self.new.fields) }
     {
         let field = self.fields.due()?;
         state(players, states, field)
     }
 
-    pub(crate) fn rule(&mut self) -> Result<RuleField, Fault>
-        ensures { Judged (rule_at (bytes_of self.old.fields) self.old.fields.at) result (Recorded SaysRule self.old.fields self.new.fields) }
+    pub(crate) fn rule(&mut self) -> Result<(), Fault>
+        ensures { Judged (rule_at (bytes_of self.old.fields) self.old.fields.at) result (Went self.old.fields self.new.fields) }
     {
         let field = self.fields.next()?;
         rule(field)

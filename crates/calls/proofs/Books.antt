@@ -13,7 +13,7 @@ use Rattle.atl.specs.Right.{KnowsParts}
 use Rattle.atl.specs.Binding.{PlainParts}
 use Rattle.atl.proofs.Right.{rule_decides, settled_last, enough, verdict_right}
 use Rattle.atl.proofs.Binding.{binding_right}
-use Rattle.table.specs.Standing.{Standing, Stack, found, settled_of, mark_of, yes_states, settled}
+use Rattle.table.specs.Standing.{Standing, Stack, found, settled_of, yes_states, settled}
 use Rattle.board.specs.Truth.{formula, IsBook}
 use Rattle.board.proofs.Knowing.{knows_parts, mark_final, knows, Here, here, few_of}
 use Rattle.board.proofs.Asking.{says_yes, says_no}

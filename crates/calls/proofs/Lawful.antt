@@ -1,5 +1,5 @@
 -- The law holds after every history.
-use Rattle.std.proofs.Common.{◌≡◌, ℕ, ◌+◌, ◌*◌, ◌<◌, ◌≤◌, Bool, true, false, cond, ◌&&◌, eqb, leb, List, [], ◌∷◌, length, Some, None, Ok, Err, Option, Result, sym, refl, ap, ◌∙◌, subst, ap₂, ⊎_elim, arith}
+use Rattle.std.proofs.Common.{◌≡◌, ℕ, ◌+◌, ◌*◌, Bool, true, false, cond, eqb, leb, List, [], ◌∷◌, length, Some, None, Ok, Err, Option, Result, sym, refl, ap, ◌∙◌, subst, ap₂, ⊎_elim, arith}
 use Rattle.std.proofs.lemmas.Bool.{cases_eq, eq-eqb, ne_eqb, cond-true, cond-false}
 use Rattle.game.specs.Structure.{Structure, Limits}
 use Rattle.refusal.specs.declared.Refusal.{Refusal}
@@ -8,16 +8,16 @@ use Rattle.atl.specs.declared.Kind.{Kind}
 use Rattle.atl.specs.Kinds.{kind_of}
 use Rattle.atl.specs.Verdict.{Settled}
 use Rattle.atl.proofs.Right.{enough}
-use Rattle.table.specs.Standing.{Standing, Stack, found, settled_of, yes_states, settled, one_more, advanced}
-use Rattle.table.specs.Answers.{taken, number_if, fresh, pushed_if, erase_answer, erase_after, round_answer, book_of, size_in, copy_of, written_in, buffer_of}
+use Rattle.table.specs.Standing.{Standing, Stack, found, yes_states, one_more, advanced}
+use Rattle.table.specs.Answers.{taken, number_if, fresh, erase_answer, book_of, size_in, copy_of, written_in, buffer_of}
 use Rattle.table.proofs.Stacks.{top, under, missing, length_advanced}
 use Rattle.calls.specs.declared.types.Call.{Call}
 use Rattle.calls.specs.declared.types.Call.TheVariants.{Write, Round, Erase, Ask, Tell, Play, Copy}
 use Rattle.calls.specs.declared.types.Answer.{Answer}
 use Rattle.calls.specs.declared.types.Answer.TheVariants.{Refused, Number, Marked, Copied}
-use Rattle.calls.specs.Histories.{given, answer, left_in, accepted, put, effect, after, written, round_more, becomes, Event, History, stack, stands, Answered, then}
-use Rattle.calls.specs.Law.{the_rule, SettledLaw, Law}
-use Rattle.calls.proofs.Possible.{kind_taken, Possible, possible}
+use Rattle.calls.specs.Histories.{given, answer, left_in, put, after, written, round_more, becomes, History, stack, stands, Answered}
+use Rattle.calls.specs.Law.{the_rule, Law}
+use Rattle.calls.proofs.Possible.{kind_taken, possible}
 use Rattle.board.proofs.Knowing.{Here, here, few_of}
 use Rattle.board.proofs.Playing.{settled_right}
 use Rattle.calls.proofs.Books.{bound_same}

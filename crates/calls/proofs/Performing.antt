@@ -1,8 +1,6 @@
 -- One call after another.
-use Rattle.std.proofs.Common.{◌≡◌, ℕ, suc, ◌+◌, ◌<◌, ◌≤◌, Bool, List, [], ◌∷◌, ◌++◌, length, get_or, take, Ok, Err, Result, sym, refl, ap, ◌∙◌, subst, ap₂, ⊎_elim, arith, length-append}
-use lib.Seq.{take-nil}
-use Rattle.std.proofs.lemmas.List.{take_all, take-append-le, take_more}
-use Rattle.std.proofs.lemmas.Bool.{cases_lt}
+use Rattle.std.proofs.Common.{◌≡◌, ℕ, ◌+◌, ◌<◌, ◌≤◌, Bool, List, [], ◌∷◌, ◌++◌, length, get_or, take, Ok, Err, Result, sym, refl, ap, ◌∙◌, subst, ap₂, arith}
+use Rattle.std.proofs.lemmas.List.{take_all, take_more}
 use Rattle.game.specs.Structure.{Structure, Limits}
 use Rattle.refusal.specs.declared.Refusal.{Refusal}
 use Rattle.atl.specs.declared.Shown.{Shown}
@@ -17,7 +15,7 @@ use Rattle.calls.specs.declared.types.Answer.{Answer}
 use Rattle.calls.specs.declared.types.Answer.TheVariants.{Refused, Number, Marked, Says, Choice, Copied}
 use Rattle.calls.specs.Histories.{given, told, answer, left_in, after, History, stack, Answered, then, history, answers, left_after}
 use Rattle.calls.specs.Law.{Law}
-use Rattle.calls.specs.Performing.{DoesCall, Performed, Performs}
+use Rattle.calls.specs.Performing.{DoesCall, Performs}
 use Rattle.calls.proofs.Possible.{next, after_next}
 use Rattle.calls.proofs.Lawful.{law}
 

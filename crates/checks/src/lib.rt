@@ -1,4 +1,6 @@
 // The edges of the games and of the board, by example.
+#![tactic(auto)]
+
 #[cfg(test)]
 mod tests {
     use atl::{Shown, Verdict};

@@ -1,5 +1,7 @@
 // Two judges compared: the one of the board, which goes by rounds, and one written apart, which goes from the targets backwards. What differs is told,
 // and the program then ends with an error.
+#![tactic(auto)]
+
 mod answers;
 mod bench;
 mod bindings;

@@ -1,10 +1,9 @@
 -- The drill keeps to the limits of a game.
-use Rattle.std.specs.Prelude.{ℕ, ◌+◌, ◌*◌, ◌^◌, ◌<◌, ◌≤◌, Bool, cond, ◌==◌, nat_le, nat_lt}
+use Rattle.std.specs.Prelude.{ℕ, ◌+◌, ◌*◌, ◌^◌, ◌<◌, ◌≤◌, ◌==◌, nat_le, nat_lt}
 use Rattle.std.proofs.Common.{arith, lit≤}
 use Rattle.std.proofs.lemmas.Nat.{mul-le}
-use Rattle.std.proofs.lemmas.Bool.{cond_both, ltb-true, leb-true}
+use Rattle.std.proofs.lemmas.Bool.{cond_both, ltb-true}
 use Rattle.game.specs.Structure.{Limits, product, move_of}
-use Rattle.game.specs.Made.{InRange}
 use Rattle.game.proofs.Making.{made_limits}
 use Rattle.drill.specs.Meaning.{counts, labels, lost, try, lead, drill, answered, given_up, gateway, line, hold, carry}
 

@@ -1,5 +1,5 @@
 -- The resend drill: the gateway sends until the line carries it or the tries run out.
-use Rattle.std.specs.Prelude.{ℕ, ◌+◌, ◌<◌, ◌≤◌, cond, ◌==◌, nat_le, nat_lt}
+use Rattle.std.specs.Prelude.{ℕ, ◌+◌, ◌≤◌, cond, ◌==◌, nat_le, nat_lt}
 use Rattle.game.specs.Structure.{Structure, move_of}
 use Rattle.game.specs.Made.{made}
 

@@ -1,4 +1,6 @@
 // The resend drill: a game of two players, the gateway and the line.
+#![tactic(auto)]
+
 ghost use Rattle.std.specs.Prelude.{◌≡◌, ℕ, ◌+◌, ◌-◌, ◌*◌, ◌/◌, ◌%◌, ◌^◌, ◌<◌, ◌≤◌, cond, Ok, Err};
 ghost use Rattle.refusal.specs.declared.Refusal.TheVariants.{NoLimit};
 ghost use Rattle.drill.specs.Meaning.{Limit, drill, lead as lead_of, most as most_of};

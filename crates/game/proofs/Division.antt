@@ -1,12 +1,12 @@
 -- The sides of choices and replies are those of the game.
-use Rattle.std.proofs.Common.{◌≡◌, ℕ, zero, suc, ◌+◌, ◌-◌, ◌*◌, ◌/◌, ◌%◌, ◌^◌, ◌<◌, ◌≤◌, min, Bool, true, false, cond, ◌⊎◌, sym, refl, ap, ◌∙◌, subst, inl, inr, ⊎_elim, arith, lit≤}
+use Rattle.std.proofs.Common.{◌≡◌, ℕ, zero, suc, ◌+◌, ◌-◌, ◌/◌, ◌%◌, ◌^◌, ◌<◌, ◌≤◌, ◌⊎◌, sym, subst, inl, inr, ⊎_elim, arith, lit≤}
 use Rattle.std.proofs.lemmas.Nat.{mul-le}
-use Rattle.std.proofs.lemmas.Bool.{cases_eq, cases_lt, cases_Bool, eq-eqb, ne_eqb, cond-true, cond-false, cond_both, eqb-true, eqb-false}
-use Rattle.game.specs.Structure.{Structure, Limits, Vector, Choice, Reply, Player, Member, Plays, move_of, product}
-use Rattle.game.specs.Lists.{numbers, lowest, highest, from, Elem, Ascending, member, own, other, choices, replies}
+use Rattle.std.proofs.lemmas.Bool.{cases_eq, cases_lt, eq-eqb, ne_eqb, cond-true, cond-false, cond_both}
+use Rattle.game.specs.Structure.{Structure, Limits, Vector, Choice, Reply, Player, Member, move_of, product}
+use Rattle.game.specs.Lists.{lowest, highest, member, own, other}
 use Rattle.game.specs.Divided.{Divided}
 use Rattle.game.proofs.Walk.{Digits}
-use Rattle.game.proofs.Members.{Digit, Box, Each, elem_numbers, numbers_elem, numbers_ascending, box_each, each_box, box_below}
+use Rattle.game.proofs.Members.{Digit, Box, elem_numbers, numbers_elem, numbers_ascending, box_each, each_box, box_below}
 use Rattle.game.proofs.Joins.{Parts, box_joins, box_or, box_once, pick, picked, box_lowest}
 
 pub moves_digit : (m : Structure) → Limits m → (q a : ℕ) → m.moves a q ≤ 15

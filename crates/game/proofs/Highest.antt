@@ -1,5 +1,5 @@
 -- One player more in the highest numbers of a state's two sides.
-use Rattle.std.proofs.Common.{◌≡◌, ℕ, zero, suc, ◌+◌, ◌-◌, ◌*◌, ◌^◌, ◌<◌, ◌≤◌, Bool, true, false, cond, sym, refl, ap, ◌∙◌, arith, lit≤}
+use Rattle.std.proofs.Common.{◌≡◌, ℕ, ◌+◌, ◌-◌, ◌*◌, ◌^◌, ◌<◌, ◌≤◌, Bool, true, false, cond, refl, arith, lit≤}
 use native.Mathlib.Nat.{pow-le-pow_right}
 use Rattle.game.specs.Structure.{Structure, Limits}
 use Rattle.game.specs.Lists.{highest, own, other, member}

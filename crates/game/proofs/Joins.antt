@@ -1,8 +1,8 @@
 -- Limits in two parts: what is under the one plus what is under the other.
-use Rattle.std.proofs.Common.{◌≡◌, ℕ, zero, suc, ◌+◌, ◌-◌, ◌*◌, ◌/◌, ◌%◌, ◌^◌, ◌<◌, ◌≤◌, min, ◌⊎◌, sym, refl, ap, ◌∙◌, subst, ap₂, inl, inr, ⊎_elim, arith}
+use Rattle.std.proofs.Common.{◌≡◌, ℕ, zero, suc, ◌+◌, ◌*◌, ◌/◌, ◌%◌, min, ◌⊎◌, sym, refl, ap, ◌∙◌, subst, ap₂, inl, inr, ⊎_elim, arith}
 use lib.Bits.{bit_or, or_zero_l, or_zero_r}
 use Rattle.std.proofs.lemmas.Nat.{or_mod, or_shr}
-use Rattle.game.specs.Lists.{numbers, lowest, highest, from, Elem}
+use Rattle.game.specs.Lists.{lowest, highest, from, Elem}
 use Rattle.game.proofs.Walk.{Digits, numbers_from}
 use Rattle.game.proofs.Members.{Digit, Box, elem_numbers}
 

@@ -1,12 +1,11 @@
 -- A game made of tables in range keeps to the limits.
-use Rattle.std.proofs.Common.{◌≡◌, ℕ, zero, suc, ◌*◌, ◌^◌, ◌<◌, ◌≤◌, Bool, true, false, cond, ◌&&◌, ltb, leb, ◌⊎◌, Some, None, sym, refl, ap, ◌∙◌, subst, inl, inr, ⊎_elim, arith, lit≤}
-use Rattle.std.proofs.lemmas.Nat.{mul-le}
-use Rattle.std.proofs.lemmas.Bool.{and_from, and_parts, and_left, and_right, le-leb, lt-ltb, ltb-true, leb-true, cond-true, cond-false, cond_both, cases_Bool}
-use Rattle.game.specs.Structure.{Structure, Limits, Vector, Player, Plays, move_of, product}
+use Rattle.std.proofs.Common.{◌≡◌, ℕ, ◌^◌, ◌<◌, ◌≤◌, Bool, true, false, ◌&&◌, ltb, leb, Some, None, sym, refl, subst, ⊎_elim, arith}
+use Rattle.std.proofs.lemmas.Bool.{and_from, and_parts, le-leb, lt-ltb, ltb-true, leb-true, cond-true, cond-false, cond_both, cases_Bool}
+use Rattle.game.specs.Structure.{Structure, Limits, Vector, Player, move_of}
 use Rattle.game.specs.Lists.{highest, under}
 use Rattle.game.specs.Made.{made, InRange}
 use Rattle.game.proofs.Walk.{Digits}
-use Rattle.game.proofs.Members.{Digit, Box, box_below}
+use Rattle.game.proofs.Members.{Box, box_below}
 use Rattle.game.proofs.Division.{players_box, box_players, plays_digit, digit_plays, product_mono}
 use Rattle.game.proofs.Under.{under_box, box_under}
 

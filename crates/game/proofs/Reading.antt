@@ -1,9 +1,7 @@
 -- The definitions of the search, read in the game's own words.
-use Rattle.std.proofs.Common.{◌≡◌, ℕ, ◌+◌, ◌<◌, ◌≤◌, Bool, true, false, cond, ◌&&◌, ◌||◌, ◌⊎◌, List, [], ◌∷◌, Some, None, Option, sym, refl, ap, ◌∙◌, subst, inl, inr, ⊎_elim, arith}
-use Rattle.std.proofs.lemmas.Bool.{cond_both}
+use Rattle.std.proofs.Common.{◌≡◌, ℕ, ◌<◌, Bool, true, false, cond, ◌&&◌, ◌||◌, List, [], ◌∷◌, Some, None, Option, sym, refl, ap, ◌∙◌, subst, inl, inr, ⊎_elim, arith}
 use Rattle.game.specs.Structure.{Structure, Limits, Choice, Reply}
 use Rattle.game.specs.Lists.{choices, replies, Elem, Climbs, Ascending}
-use Rattle.game.specs.Divided.{Divided}
 use Rattle.game.proofs.Division.{divided}
 use Rattle.game.specs.Serving.{every, some, find, within, leads, serves, answers, first_serving, all_answered}
 use Rattle.game.specs.Reading.{Leads, EveryReply, SomeReply, Serving, Answering}

@@ -1,9 +1,9 @@
 -- The test of a number against limits passes exactly for the numbers under them.
-use Rattle.std.proofs.Common.{◌≡◌, ℕ, zero, suc, ◌+◌, ◌-◌, ◌/◌, ◌%◌, ◌<◌, ◌≤◌, min, Bool, true, false, ◌&&◌, eqb, leb, Decides, sym, refl, ap, ◌∙◌, subst, arith}
+use Rattle.std.proofs.Common.{◌≡◌, ℕ, zero, suc, ◌-◌, ◌/◌, ◌%◌, ◌<◌, min, true, false, ◌&&◌, eqb, leb, Decides, refl, ap, ◌∙◌, arith}
 use Rattle.std.proofs.lemmas.Bool.{and_left, and_from, and_parts, le-leb, leb-true, eqb-true, eq-eqb}
 use Rattle.game.specs.Lists.{highest, under}
 use Rattle.game.proofs.Walk.{Digits, highest_mod, highest_div}
-use Rattle.game.proofs.Members.{Digit, Box}
+use Rattle.game.proofs.Members.{Box}
 
 -- as the loop goes
 pub under_not : (n h v : ℕ) → 0 < n → (leb (min 1 (h % 16)) (v % 16) && leb (v % 16) (h % 16)) ≡ false → under n h v ≡ false

@@ -1,5 +1,5 @@
 -- A game made of plain tables, cut to its players, its states and its vectors.
-use Rattle.std.specs.Prelude.{ℕ, ◌^◌, ◌<◌, ◌≤◌, Bool, true, false, cond, ◌&&◌, Some, None, nat_le, nat_lt}
+use Rattle.std.specs.Prelude.{ℕ, ◌^◌, ◌<◌, ◌≤◌, cond, ◌&&◌, Some, None, nat_le, nat_lt}
 use Rattle.game.specs.Structure.{Structure, product}
 use Rattle.game.specs.Lists.{highest, under}
 

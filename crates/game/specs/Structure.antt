@@ -1,5 +1,5 @@
 -- What a game means: a concurrent game structure, and who can do what at one of its states.
-use Rattle.std.specs.Prelude.{◌≡◌, ℕ, zero, suc, ◌+◌, ◌-◌, ◌*◌, ◌/◌, ◌%◌, ◌^◌, ◌<◌, ◌≤◌, Some, None, Option}
+use Rattle.std.specs.Prelude.{◌≡◌, ℕ, zero, suc, ◌-◌, ◌*◌, ◌/◌, ◌%◌, ◌^◌, ◌<◌, ◌≤◌, Some, None, Option}
 
 -- The whole meaning of a game. Players are 1 to `players`, states 0 to `states` - 1.
 pub record Structure : Type 0 where

@@ -1,4 +1,6 @@
 // Games: what every game answers, what it means, and the two sides of a state.
+#![tactic(auto)]
+
 mod interface;
 mod sides;
 

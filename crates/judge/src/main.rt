@@ -1,4 +1,6 @@
 // Judges a session book, or the resend drill, and prints the listing or a playbook.
+#![tactic(auto)]
+
 ghost use Rattle.judge.specs.Orders.{Asks};
 
 use anyhow::anyhow;

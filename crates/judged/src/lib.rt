@@ -1,4 +1,6 @@
 // The judged examples: what the board answers for the rules of two small games.
+#![tactic(auto)]
+
 mod examples;
 mod rows;
 

@@ -1,4 +1,6 @@
 // The listing of a judged game as text.
+#![tactic(auto)]
+
 ghost use Rattle.std.specs.Prelude.{◌≡◌, cond, List, ◌++◌, length, is_ok, IfOk, string_bytes, codes};
 ghost use Rattle.refusal.specs.Numbers.{number_of};
 ghost use Rattle.book.specs.Faults.{number_of as cause-number, word_of};

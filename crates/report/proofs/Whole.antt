@@ -1,5 +1,5 @@
 -- From bytes to what is printed.
-use Rattle.std.proofs.Common.{◌≡◌, ℕ, zero, suc, ◌*◌, ◌<◌, true, cond, ltb, List, length, get_or, Some, None, Option, sym, refl, ap, ◌∙◌, subst, inl, inr, arith}
+use Rattle.std.proofs.Common.{◌≡◌, ℕ, zero, suc, ◌*◌, ◌<◌, ltb, List, length, Some, None, sym, refl, ap, ◌∙◌, subst, inl, inr, arith}
 use Rattle.std.proofs.lemmas.Bool.{lt-ltb, cond-true}
 use Rattle.game.specs.Structure.{Structure, Limits}
 use Rattle.drill.specs.Limited.{drill_limits}
@@ -7,14 +7,14 @@ use Rattle.drill.specs.Meaning.{drill, Limit}
 use Rattle.book.specs.declared.fault.Fault.{Fault}
 use Rattle.book.specs.declared.filed.FiledBook.{FiledBook}
 use Rattle.book.specs.declared.rules.RuleField.{RuleField}
-use Rattle.book.specs.Tests.{Tests, Passes, Fails, OneVerdict}
+use Rattle.book.specs.Tests.{Passes, Fails, OneVerdict}
 use Rattle.book.specs.Layout.{book_tests, list_tests}
 use Rattle.book.specs.Content.{Content, Holds, HoldsRules}
 use Rattle.book.specs.Described.{described}
 use Rattle.book.specs.declared.rules.Rules.{Rules}
 use Rattle.book.specs.Readers.{game_in, limits_in, told, told_in}
 use Rattle.book.specs.Reading.{Files, OneContent, ListsRules, OneList}
-use Rattle.book.specs.Told.{rule_count, rule_in, rule_told, no_rule, Tells}
+use Rattle.book.specs.Told.{rule_count, rule_in, rule_told, Tells}
 use Rattle.report.specs.declared.types.Report.{Report}
 use Rattle.report.specs.Judging.{judged, judgement, rule_number, then_judged}
 use Rattle.report.specs.Printed.{Prints, listed}

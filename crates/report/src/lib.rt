@@ -1,4 +1,6 @@
 // Judging a game by rules, and what is printed of it.
+#![tactic(auto)]
+
 mod judging;
 mod reading;
 mod report;

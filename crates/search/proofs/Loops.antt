@@ -1,5 +1,5 @@
 -- A loop that goes from number to number goes through the list of them.
-use Rattle.std.proofs.Common.{◌≡◌, ℕ, zero, suc, ◌^◌, ◌<◌, ◌≤◌, Bool, true, false, cond, ◌&&◌, ◌||◌, List, [], ◌∷◌, length, Some, None, Option, sym, refl, ap, ◌∙◌, subst, arith}
+use Rattle.std.proofs.Common.{◌≡◌, ℕ, ◌^◌, ◌<◌, ◌≤◌, Bool, true, false, cond, ◌&&◌, ◌||◌, List, [], ◌∷◌, length, Some, None, Option, sym, ap, ◌∙◌, subst, arith}
 use Rattle.game.specs.Lists.{numbers, rest, from, highest, lowest, following}
 use Rattle.game.proofs.Walk.{Digits, Fits, numbers_from, rest_from, lowest_below, following_below}
 use Rattle.game.specs.Serving.{every, some, find}

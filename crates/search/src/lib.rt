@@ -1,4 +1,6 @@
 // The search for a choice that leads into a set of states, whatever the others reply, and its dual.
+#![tactic(auto)]
+
 ghost use Rattle.std.specs.Prelude.{◌≡◌, ℕ, ◌+◌, ◌-◌, ◌*◌, ◌/◌, ◌%◌, ◌^◌, ◌<◌, ◌≤◌, min};
 ghost use Rattle.game.specs.Lists.{own, highest as highest_of, lowest as lowest_of, following as following_of};
 ghost use Rattle.game.specs.Serving.{set_of, within, first_serving, all_answered};

@@ -1,17 +1,17 @@
 -- One more round of one rule leaves the others right: such a rule is fresh, or its parts are settled and hence another rule.
-use Rattle.std.proofs.Common.{◌≡◌, ℕ, zero, suc, ◌+◌, ◌<◌, ◌≤◌, Bool, true, false, cond, not, ◌&&◌, ◌||◌, eqb, ◌≢◌, ◌⊎◌, List, [], ◌∷◌, length, get_or, set, Some, sym, refl, ap, ◌∙◌, subst, ap₂, inl, inr, ⊎_elim, true≢false, arith, get_or-set_other, get_or-set_same}
+use Rattle.std.proofs.Common.{◌≡◌, ℕ, zero, suc, ◌<◌, ◌≤◌, Bool, true, false, not, ◌&&◌, ◌≢◌, ◌⊎◌, List, [], ◌∷◌, length, set, Some, sym, refl, ap, ◌∙◌, subst, ap₂, inl, inr, ⊎_elim, true≢false, arith, get_or-set_other, get_or-set_same}
 use mathlib.Core.Path.{fun_ext}
-use Rattle.std.proofs.lemmas.Bool.{cases_eq, and_cases, or_from, and_right, and_left, not_from_true, cases_Bool}
+use Rattle.std.proofs.lemmas.Bool.{cases_eq, or_from, not_from_true}
 use Rattle.game.specs.Structure.{Structure}
 use Rattle.atl.specs.declared.Kind.{Kind}
 use Rattle.atl.specs.declared.Mark.{Mark}
-use Rattle.atl.specs.Rounds.{settles, closed, is_yes, marks}
+use Rattle.atl.specs.Rounds.{settles, closed, is_yes}
 use Rattle.table.specs.declared.types.Rule.{Rule}
 use Rattle.table.specs.Parts.{uses_r, uses_s, waits}
 use Rattle.table.specs.Standing.{Standing, Stack, found, marks_of, settled_of, mark_of, yes_states, settled, one_more, advanced}
-use Rattle.table.specs.Shows.{blank, rule_at, condition_of, Right, Orderly, AllRight}
+use Rattle.table.specs.Shows.{rule_at, condition_of, Right, Orderly, AllRight}
 use Rattle.table.proofs.Marking.{marks_same, done_r, done_s, open_first}
-use Rattle.table.proofs.Stacks.{top, under, settled_stands, length_advanced}
+use Rattle.table.proofs.Stacks.{top, under, length_advanced}
 
 -- a part that has settled is not waited for
 done_waits : (u d : Bool) → (u ≡ true → d ≡ true) → (u && not d) ≡ false

@@ -1,10 +1,10 @@
 -- The playbook by the table is the playbook by what stands.
-use Rattle.std.proofs.Common.{◌≡◌, ℕ, ◌<◌, ◌≤◌, Bool, true, false, cond, eqb, ltb, List, length, get_or, Some, None, Ok, Err, Result, sym, refl, ap, ◌∙◌, subst, ap₂, true≢false, arith}
+use Rattle.std.proofs.Common.{◌≡◌, ℕ, ◌<◌, ◌≤◌, Bool, true, false, cond, eqb, ltb, List, Ok, Err, Result, sym, refl, ap, ◌∙◌, ap₂, arith}
 use Rattle.std.proofs.lemmas.Bool.{lt-ltb, le-ltb, ne_eqb, cond-true, cond-false}
 use Rattle.game.specs.Structure.{Structure, Limits}
 use Rattle.game.specs.Serving.{set_of}
 use Rattle.refusal.specs.declared.Refusal.{Refusal}
-use Rattle.refusal.specs.declared.Refusal.TheVariants.{NotSettled, NoPlaybook, NoRule, NoState}
+use Rattle.refusal.specs.declared.Refusal.TheVariants.{NotSettled, NoRule, NoState}
 use Rattle.atl.specs.declared.Kind.{Kind}
 use Rattle.atl.specs.declared.Kind.TheVariants.{Label, Not, Or, Strategic}
 use Rattle.atl.specs.declared.Modality.TheVariants.{Can, Despite}
@@ -18,7 +18,7 @@ use Rattle.atl.proofs.Plays.{playbook_local}
 use Rattle.table.specs.declared.types.Rule.{Rule}
 use Rattle.table.specs.declared.types.Table.{Table}
 use Rattle.table.specs.Parts.{uses_r, uses_s}
-use Rattle.table.specs.Standing.{Standing, Stack, settled_of, mark_of, yes_states}
+use Rattle.table.specs.Standing.{Stack, mark_of, yes_states}
 use Rattle.table.specs.Answers.{book_as, book_of, choice_in, play_of, play_answer}
 use Rattle.table.specs.Shows.{rule_at, Shows}
 use Rattle.table.specs.Steps.{is_settled, YesMarks, YesArray}

@@ -1,5 +1,5 @@
 -- What the calls on the table do to what stands.
-use Rattle.std.proofs.Common.{◌≡◌, ℕ, zero, suc, ◌+◌, ◌-◌, ◌<◌, ◌≤◌, Bool, true, false, cond, not, ◌&&◌, ◌||◌, eqb, ltb, ◌⊎◌, List, [], ◌∷◌, length, get_or, set, replicate, Some, None, Ok, Err, Option, Result, sym, refl, ap, ◌∙◌, subst, ap₂, inl, inr, ⊎_elim, true≢false, add-one, arith, length-set, get_or-set_same}
+use Rattle.std.proofs.Common.{◌≡◌, ℕ, zero, suc, ◌+◌, ◌-◌, ◌<◌, ◌≤◌, Bool, true, false, cond, not, ◌&&◌, ◌||◌, ltb, List, [], ◌∷◌, length, get_or, set, Some, None, Ok, Err, Option, Result, sym, refl, ap, ◌∙◌, subst, ap₂, inl, ⊎_elim, add-one, arith, length-set, get_or-set_same}
 use lib.ListN.{get_or-replicate}
 use Rattle.std.proofs.lemmas.Bool.{eq-eqb, ne_eqb, lt-ltb, ltb-true, ltb-false, cond-true, cond-false, cases_lt, cases_Bool}
 use Rattle.game.specs.Structure.{Structure, Limits}
@@ -9,22 +9,20 @@ use Rattle.refusal.specs.declared.Refusal.TheVariants.{NoRule, NoState, PartUnse
 use Rattle.atl.specs.declared.Kind.{Kind}
 use Rattle.atl.specs.declared.Mark.{Mark}
 use Rattle.atl.specs.declared.Mark.TheVariants.{Open}
-use Rattle.atl.specs.declared.Shown.{Shown}
-use Rattle.atl.specs.Rounds.{is_yes, settles, shown, newly, tally, closed}
+use Rattle.atl.specs.Rounds.{is_yes, shown, newly, tally, closed}
 use Rattle.atl.proofs.Quiet.{quiet_comes}
-use Rattle.table.specs.declared.types.Condition.{Condition}
 use Rattle.table.specs.declared.types.Rule.{Rule}
 use Rattle.table.specs.declared.types.Table.{Table}
 use Rattle.table.specs.Parts.{uses_r, uses_s, waits}
-use Rattle.table.specs.Standing.{Standing, Stack, found, marks_of, settled_of, mark_of, yes_states, settled, one_more, advanced}
+use Rattle.table.specs.Standing.{Standing, Stack, found, marks_of, settled_of, yes_states, settled, one_more, advanced}
 use Rattle.table.specs.Answers.{taken, number_if, fresh, pushed_if, write_answer, write_after, erase_answer, erase_after, round_of, round_answer, advanced_if, round_after, ask_of, ask_answer, tell_of, tell_answer}
-use Rattle.table.specs.Shows.{blank, rule_at, condition_of, Right, Orderly, AllRight, Shows, Does, Answers, Few, FewRounds}
+use Rattle.table.specs.Shows.{rule_at, condition_of, Right, Orderly, AllRight, Shows, Does, Few}
 use Rattle.table.specs.Steps.{rounds_in, is_settled, ask_table, tell_table, fresh_rule, Wrote, erase_table, Erased, settled_in, due_rule, due_table, YesArray, Worked, Stepped}
-use Rattle.table.proofs.Taking.{Taken, taken_tells, past, err_ok, err_err}
-use Rattle.table.proofs.Marking.{open_first, marks_same, done_r, done_s}
+use Rattle.table.proofs.Taking.{taken_tells, past, err_ok, err_err}
+use Rattle.table.proofs.Marking.{open_first}
 use Rattle.table.proofs.Stacks.{Found, find, missing, length_advanced}
-use Rattle.table.proofs.Advancing.{untouched, advance, waits_not, fresh_settles}
-use Rattle.table.proofs.Rounding.{rounds_of, few_before, small, counts_is, orderly_next, right_next}
+use Rattle.table.proofs.Advancing.{untouched, advance, fresh_settles}
+use Rattle.table.proofs.Rounding.{rounds_of, small, counts_is, orderly_next, right_next}
 
 -- an empty table shows that nothing stands
 pub shows_nothing : (m : Structure) (t : Table) → t.count ≡ 0 → length t.rules ≡ 32 → Shows m [] t

@@ -1,5 +1,5 @@
 -- The bytes of a playbook, and the buffer that they are copied into.
-use Rattle.std.proofs.Common.{◌≡◌, ℕ, zero, suc, ◌+◌, ◌-◌, ◌*◌, ◌<◌, ◌≤◌, Bool, true, false, cond, ltb, leb, List, [], ◌∷◌, ◌++◌, length, take, drop, Some, None, Ok, Err, Result, sym, refl, ap, ◌∙◌, subst, ap₂, add-one, arith}
+use Rattle.std.proofs.Common.{◌≡◌, ℕ, zero, suc, ◌+◌, ◌*◌, ◌<◌, ◌≤◌, true, false, ltb, List, ◌++◌, length, take, drop, Ok, Err, Result, sym, refl, ap, ◌∙◌, ap₂, add-one, arith}
 use borrow.Rule.Slice.PartMut.{put_mid}
 use Rattle.std.proofs.lemmas.List.{take_all, drop-drop}
 use Rattle.std.proofs.lemmas.Slice.{take-put_mid}
@@ -9,7 +9,7 @@ use Rattle.refusal.specs.declared.Refusal.{Refusal}
 use Rattle.refusal.specs.declared.Refusal.TheVariants.{NoRule, NoRoom}
 use Rattle.atl.specs.declared.Temporal.{Temporal}
 use Rattle.table.specs.declared.types.Table.{Table}
-use Rattle.table.specs.Standing.{Standing, Stack}
+use Rattle.table.specs.Standing.{Stack}
 use Rattle.table.specs.Answers.{book_of, size_in, copy_of, copy_answer, four_bytes, book_bytes, written_in, buffer_of, buffer_after}
 use Rattle.table.specs.Shows.{rule_at, Shows}
 use Rattle.table.specs.Books.{choice_of, book_in, Choices}

@@ -1,6 +1,6 @@
 -- One round of one rule: what the code marks is what the next round marks.
-use Rattle.std.proofs.Common.{◌≡◌, ℕ, zero, suc, Bool, true, false, cond, not, ◌&&◌, ◌||◌, sym, refl, ap, ◌∙◌, subst, ap₂, true≢false}
-use Rattle.std.proofs.lemmas.Bool.{and_from, or_left, or_parts, not-false}
+use Rattle.std.proofs.Common.{◌≡◌, ℕ, zero, suc, Bool, true, false, cond, not, ◌&&◌, ◌||◌, sym, refl, ap, ◌∙◌, ap₂, true≢false}
+use Rattle.std.proofs.lemmas.Bool.{or_parts, not-false}
 use Rattle.game.specs.Structure.{Structure}
 use Rattle.atl.specs.declared.Kind.{Kind}
 use Rattle.atl.specs.declared.Kind.TheVariants.{Label, Not, Or, Strategic}
@@ -8,7 +8,7 @@ use Rattle.atl.specs.declared.Modality.{Modality}
 use Rattle.atl.specs.declared.Temporal.TheVariants.{Next, Until, Unless}
 use Rattle.atl.specs.declared.Mark.{Mark}
 use Rattle.atl.specs.declared.Mark.TheVariants.{Open, Yes, No}
-use Rattle.atl.specs.Rounds.{holds, labelled, is_open, is_yes, once, until_marks, unless_marks, marks, settles, closed}
+use Rattle.atl.specs.Rounds.{holds, is_open, is_yes, once, until_marks, unless_marks, marks, settles}
 use Rattle.table.specs.Parts.{uses_r, uses_s, waits}
 use Rattle.table.specs.Shows.{condition_of}
 use Rattle.table.specs.Steps.{aimed, proposed}

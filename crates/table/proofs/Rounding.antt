@@ -1,21 +1,20 @@
 -- A round that is due takes a rule from the marks of its rounds so far to those of the next.
-use Rattle.std.proofs.Common.{◌≡◌, ℕ, zero, suc, ◌+◌, ◌<◌, ◌≤◌, Bool, true, false, cond, not, ◌&&◌, ◌||◌, eqb, ◌⊎◌, List, length, get_or, sym, refl, ap, ◌∙◌, subst, ap₂, inl, inr, ⊎_elim, arith}
+use Rattle.std.proofs.Common.{◌≡◌, ℕ, zero, suc, ◌+◌, ◌<◌, ◌≤◌, Bool, true, false, cond, not, ◌&&◌, ◌||◌, eqb, List, get_or, refl, ap, ◌∙◌, subst, ap₂, inr, ⊎_elim, arith}
 use Rattle.std.proofs.lemmas.Bool.{cases_lt}
 use Rattle.game.specs.Structure.{Structure, Limits}
 use Rattle.game.specs.Serving.{set_of}
 use Rattle.atl.specs.declared.Kind.{Kind}
 use Rattle.atl.specs.declared.Mark.{Mark}
 use Rattle.atl.specs.declared.Mark.TheVariants.{Open}
-use Rattle.atl.specs.Rounds.{is_open, marks, tally, newly, settles, one_round, closed}
+use Rattle.atl.specs.Rounds.{is_open, tally, newly, settles, one_round, closed}
 use Rattle.atl.proofs.Quiet.{quiet_comes}
 use Rattle.atl.proofs.Steps.{local}
-use Rattle.table.specs.declared.types.Condition.{Condition}
 use Rattle.table.specs.declared.types.Rule.{Rule}
 use Rattle.table.specs.declared.types.Sets.{Sets}
 use Rattle.table.specs.Parts.{uses_r, uses_s, waits}
-use Rattle.table.specs.Standing.{Standing, Stack, marks_of, settled_of, mark_of, yes_states, settled, one_more}
+use Rattle.table.specs.Standing.{Standing, Stack, marks_of, settled_of, yes_states, settled, one_more}
 use Rattle.table.specs.Shows.{condition_of, Right, Orderly}
-use Rattle.table.specs.Steps.{rounds_in, aimed, new_mark, gets_marked, Aim, Rounded, Worked}
+use Rattle.table.specs.Steps.{rounds_in, aimed, new_mark, gets_marked, Worked}
 use Rattle.table.proofs.Marking.{Agrees, one_step}
 use Rattle.table.proofs.Passing.{by_fields, unclosed}
 

@@ -1,13 +1,11 @@
 -- Looking rules up on a stack, and what a change leaves as it was.
-use Rattle.std.proofs.Common.{◌≡◌, ℕ, zero, suc, ◌+◌, ◌<◌, ◌≤◌, Bool, true, false, cond, eqb, ◌⊎◌, List, [], ◌∷◌, length, Some, None, Option, sym, refl, ap, ◌∙◌, subst, inl, inr, ⊎_elim, true≢false, arith}
+use Rattle.std.proofs.Common.{◌≡◌, ℕ, suc, ◌<◌, ◌≤◌, true, cond, eqb, List, [], ◌∷◌, length, Some, None, sym, refl, ap, ◌∙◌, subst, ⊎_elim, true≢false, arith}
 use mathlib.Core.Path.{fun_ext}
 use Rattle.std.proofs.lemmas.Bool.{cases_eq, eq-eqb, ne_eqb, cond-true, cond-false}
 use Rattle.game.specs.Structure.{Structure}
-use Rattle.atl.specs.declared.Mark.{Mark}
-use Rattle.atl.specs.Rounds.{settles, closed, is_yes}
+use Rattle.atl.specs.Rounds.{is_yes}
 use Rattle.table.specs.declared.types.Rule.{Rule}
-use Rattle.table.specs.Parts.{waits}
-use Rattle.table.specs.Standing.{Standing, Stack, found, marks_of, settled_of, mark_of, yes_states, settled, one_more, advanced}
+use Rattle.table.specs.Standing.{Standing, Stack, found, settled_of, mark_of, yes_states, settled, one_more, advanced}
 use Rattle.table.specs.Shows.{rule_at, Right, Orderly, AllRight}
 
 -- the top of a stack, and what is under it

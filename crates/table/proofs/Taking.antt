@@ -1,8 +1,8 @@
 -- What a write that is taken tells: there is room, and the parts stand.
-use Rattle.std.proofs.Common.{◌≡◌, ℕ, ◌<◌, Bool, true, false, cond, not, ◌||◌, eqb, ltb, Some, None, Ok, Err, Option, Result, sym, refl, ap, ◌∙◌, subst, ⊎_elim, arith}
-use Rattle.std.proofs.lemmas.Bool.{ltb-true, eqb-false, cases_Bool, cond-true, cond-false, not-false, or_parts}
+use Rattle.std.proofs.Common.{◌≡◌, ℕ, ◌<◌, Bool, true, false, cond, not, eqb, ltb, Some, None, Ok, Err, Option, Result, sym, refl, ap, ◌∙◌, subst, arith}
+use Rattle.std.proofs.lemmas.Bool.{ltb-true, eqb-false, cond-true, not-false, or_parts}
 use Rattle.refusal.specs.declared.Refusal.{Refusal}
-use Rattle.refusal.specs.declared.Refusal.TheVariants.{Full, NoKind, NoGroup, NoPart}
+use Rattle.refusal.specs.declared.Refusal.TheVariants.{Full, NoGroup, NoPart}
 use Rattle.atl.specs.declared.Kind.{Kind}
 use Rattle.atl.specs.Kinds.{kind_of}
 use Rattle.table.specs.Parts.{uses_r, uses_s, bad_group, bad_part}

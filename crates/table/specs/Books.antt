@@ -1,5 +1,5 @@
 -- What the code of the playbook does, by the fields of the table.
-use Rattle.std.specs.Prelude.{◌≡◌, ℕ, ◌+◌, ◌*◌, ◌<◌, Bool, true, false, cond, List, length, Ok, Err, Result, slice_index_or}
+use Rattle.std.specs.Prelude.{◌≡◌, ℕ, ◌<◌, Bool, cond, List, Ok, Err, Result, slice_index_or}
 use Rattle.game.specs.Structure.{Structure}
 use Rattle.game.specs.Serving.{set_of}
 use Rattle.refusal.specs.declared.Refusal.{Refusal}

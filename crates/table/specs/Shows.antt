@@ -3,7 +3,6 @@ use Rattle.std.specs.Prelude.{◌≡◌, ℕ, zero, suc, ◌+◌, ◌<◌, ◌�
 use Rattle.game.specs.Structure.{Structure}
 use Rattle.refusal.specs.declared.Refusal.{Refusal}
 use Rattle.atl.specs.declared.Kind.TheVariants.{Label}
-use Rattle.atl.specs.declared.Mark.{Mark}
 use Rattle.atl.specs.declared.Mark.TheVariants.{Open}
 use Rattle.atl.specs.Rounds.{settles}
 use Rattle.table.specs.declared.types.Condition.{Condition}

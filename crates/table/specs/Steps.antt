@@ -1,5 +1,5 @@
 -- What each inner function does, by the fields of the table.
-use Rattle.std.specs.Prelude.{◌≡◌, ℕ, zero, suc, ◌+◌, ◌-◌, ◌<◌, ◌≤◌, Bool, true, false, cond, not, ◌&&◌, ◌||◌, List, length, set, replicate, Ok, Err, Result, ◌==◌, nat_lt, slice_index_or, slice_set}
+use Rattle.std.specs.Prelude.{◌≡◌, ℕ, suc, ◌+◌, ◌-◌, ◌<◌, ◌≤◌, Bool, true, false, cond, not, ◌&&◌, ◌||◌, List, length, replicate, Ok, Err, Result, ◌==◌, nat_lt, slice_index_or, slice_set}
 use Rattle.game.specs.Structure.{Structure}
 use Rattle.game.specs.Serving.{set_of}
 use Rattle.refusal.specs.declared.Refusal.{Refusal}

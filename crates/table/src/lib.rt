@@ -1,4 +1,6 @@
 // The table of rules: what stands, what it has marked, and what each call does to it.
+#![tactic(auto)]
+
 mod playbook;
 mod rule;
 mod rules;

@@ -9,8 +9,8 @@ use Rattle.atl.proofs.Binding.{binding_right}
 
 pub returns : goal.returns
 returns c = record {
-  count = c.one-more.ensures;
-  enough = subst (Enough c.args.states) (sym c.one-more.ensures) (enough c.args.states);
+  count = c.one_more.ensures;
+  enough = subst (Enough c.args.states) (sym c.one_more.ensures) (enough c.args.states);
   settling = settling;
   rules = rule_right;
   marks = mark_right;

@@ -1,4 +1,4 @@
 use Rattle.binding.proofs.+all_first.Given as goal
 
-abbrev pub decreases-all-first : goal.decreases-all-first
-decreases-all-first l = l.players
+abbrev pub decreases-all_first : goal.decreases-all_first
+decreases-all_first l = l.players

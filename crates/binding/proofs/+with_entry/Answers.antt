@@ -6,17 +6,17 @@ use Rattle.binding.proofs.+with_entry.Goals as goal
 pub returns-then-players-eq0 : goal.returns-then-players-eq0
 returns-then-players-eq0 t c = placed_none c.args.players c.args.most c.args.entry c.args.vector (omega arith)
 
-room : (t : ℕ) (c : goal.After-with-entry t) → (c.with-entry.result < 2 ^ 20) × (c.bound-move-low.result ≤ 15)
-room t c = placed_room c.args.players c.args.most c.args.entry c.args.vector c.with-entry.result c.bound-move-low.result c.if-players-eq0.false c.requires c.with-entry.ensures c.bound-move-low.ensures
+room : (t : ℕ) (c : goal.After-with_entry t) → (c.with_entry.result < 2 ^ 20) × (c.bound_move-low.result ≤ 15)
+room t c = placed_room c.args.players c.args.most c.args.entry c.args.vector c.with_entry.result c.bound_move-low.result c.if-players-eq0.false c.requires c.with_entry.ensures c.bound_move-low.ensures
 
-pub overflow-mul-result : goal.overflow-mul-result
-overflow-mul-result t c = omega (arith, (room t c).0)
+pub overflow_mul-result : goal.overflow_mul-result
+overflow_mul-result t c = omega (arith, (room t c).0)
 
-pub overflow-add-result : goal.overflow-add-result
-overflow-add-result t c = let r = room t c in omega arith
+pub overflow_add-result : goal.overflow_add-result
+overflow_add-result t c = let r = room t c in omega arith
 
 pub returns : goal.returns
 returns t c =
-    ap (λ x. x * 16 + c.bound-move-low.result) c.with-entry.ensures
-    ∙ ap (λ x. placed (c.args.players - 1) (c.args.most / 16) (c.args.entry / 16) (c.args.vector / 16) * 16 + x) c.bound-move-low.ensures
+    ap (λ x. x * 16 + c.bound_move-low.result) c.with_entry.ensures
+    ∙ ap (λ x. placed (c.args.players - 1) (c.args.most / 16) (c.args.entry / 16) (c.args.vector / 16) * 16 + x) c.bound_move-low.ensures
     ∙ placed_more c.args.players c.args.most c.args.entry c.args.vector c.if-players-eq0.false

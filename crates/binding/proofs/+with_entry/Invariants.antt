@@ -1,4 +1,4 @@
 use Rattle.binding.proofs.+with_entry.Given as goal
 
-abbrev pub decreases-with-entry : goal.decreases-with-entry
-decreases-with-entry l = l.players
+abbrev pub decreases-with_entry : goal.decreases-with_entry
+decreases-with_entry l = l.players

@@ -1,12 +1,11 @@
-use Rattle.std.proofs.Common.{◌≡◌, ℕ, ◌<◌, Bool, true, false, Option, sym, ap, ◌∙◌, subst}
+use Rattle.std.proofs.Common.{◌≡◌, ℕ, ◌<◌, Bool, true, false, sym, ap, ◌∙◌, subst}
 use Rattle.game.specs.Structure.{Structure, Limits}
 use Rattle.game.specs.Lists.{own, other}
 use Rattle.game.proofs.Division.{own_digits, other_digits}
 use Rattle.game.specs.Serving.{every, some, set_of, leads, answers, all_answered}
 use Rattle.game.specs.Reading.{Answering}
 use Rattle.game.proofs.Reading.{reads_answering}
-use Rattle.search.proofs.Loops.{Started, started, Turned, turned, every_pass, every_fail, some_pass, some_fail, from_none, from_some, small}
-use Rattle.search.proofs.answering.Given as given
+use Rattle.search.proofs.Loops.{started, turned, every_pass, every_fail, some_pass, some_fail, from_none, from_some, small}
 use Rattle.search.proofs.answering.Goals as goal
 
 -- the answer, and what it says of the game
@@ -39,7 +38,7 @@ choices-preserved g c =
     let t = turned (own m c.args.group c.args.state) (own_digits m c.args.group c.args.state (g.G.Game.limits c.args.game.now)) c.at-sides.ensures.players c.at-sides.ensures.choice c.in-Some.is c.choices.invariant.0 c.following-choice.ensures in
     let f = leads m c.args.state (set_of c.args.inside.now) c.in-Some.c in
     let answered : answers m c.args.group c.args.state (set_of c.args.inside.now) c.in-Some.c ≡ true =
-    c.replies.invariant.1 ∙ some_pass f (from_some (other m c.args.group c.args.state) m.players c.in-Some-reply.is) (sym c.if-leads-in.ensures) in
+    c.replies.invariant.1 ∙ some_pass f (from_some (other m c.args.group c.args.state) m.players c.in-Some-reply.is) (sym c.if-leads_in.ensures) in
     (t.fits, c.choices.invariant.1 ∙ every_pass (answers m c.args.group c.args.state (set_of c.args.inside.now)) t.list answered)
 
 pub replies-smaller : goal.replies-smaller
@@ -52,10 +51,10 @@ unfolding leads
 replies-preserved g c =
     let m = g.G.Game.meaning c.args.game.now in
     let t = turned (other m c.args.group c.args.state) (other_digits m c.args.group c.args.state (g.G.Game.limits c.args.game.now)) c.at-sides.ensures.players c.at-sides.ensures.reply c.in-Some-reply.is c.replies.invariant.0 c.following-reply.ensures in
-    (t.fits, c.replies.invariant.1 ∙ some_fail (leads m c.args.state (set_of c.args.inside.now) c.in-Some.c) t.list (sym c.if-leads-in.ensures))
+    (t.fits, c.replies.invariant.1 ∙ some_fail (leads m c.args.state (set_of c.args.inside.now) c.in-Some.c) t.list (sym c.if-leads_in.ensures))
 
-pub leads-in-requires : goal.leads-in-requires
-leads-in-requires g c =
+pub leads_in-requires : goal.leads_in-requires
+leads_in-requires g c =
     let six = (g.G.Game.limits c.args.game.now).six in
     (small six c.choices.invariant.0 c.in-Some.is, small six c.replies.invariant.0 c.in-Some-reply.is)
 
@@ -64,11 +63,11 @@ returns-in-Some g c =
     let m = g.G.Game.meaning c.args.game.now in
     let t = turned (own m c.args.group c.args.state) (own_digits m c.args.group c.args.state (g.G.Game.limits c.args.game.now)) c.at-sides.ensures.players c.at-sides.ensures.choice c.in-Some.is c.choices.invariant.0 c.following-choice.ensures in
     let not_answered : answers m c.args.group c.args.state (set_of c.args.inside.now) c.in-Some.c ≡ false =
-    c.replies.invariant.1 ∙ ap (some (leads m c.args.state (set_of c.args.inside.now) c.in-Some.c)) (from_none (other m c.args.group c.args.state) m.players c.in-default-reply.is) in
+    c.replies.invariant.1 ∙ ap (some (leads m c.args.state (set_of c.args.inside.now) c.in-Some.c)) (from_none (other m c.args.group c.args.state) m.players c.in_default-reply.is) in
     both m (g.G.Game.limits c.args.game.now) c.args.group c.args.state (set_of c.args.inside.now) (sym (c.choices.invariant.1 ∙ every_fail (answers m c.args.group c.args.state (set_of c.args.inside.now)) t.list not_answered))
 
 pub returns : goal.returns
 unfolding all_answered
 returns g c =
     let m = g.G.Game.meaning c.args.game.now in
-    both m (g.G.Game.limits c.args.game.now) c.args.group c.args.state (set_of c.args.inside.now) (sym (c.choices.invariant.1 ∙ ap (every (answers m c.args.group c.args.state (set_of c.args.inside.now))) (from_none (own m c.args.group c.args.state) m.players c.in-default.is)))
+    both m (g.G.Game.limits c.args.game.now) c.args.group c.args.state (set_of c.args.inside.now) (sym (c.choices.invariant.1 ∙ ap (every (answers m c.args.group c.args.state (set_of c.args.inside.now))) (from_none (own m c.args.group c.args.state) m.players c.in_default.is)))

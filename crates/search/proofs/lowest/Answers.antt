@@ -5,20 +5,20 @@ use Rattle.search.proofs.lowest.Goals as goal
 pub loop-i-init : goal.loop-i-init
 loop-i-init c = lowered_none c.args.players c.args.highest
 
-pub overflow-mul-low : goal.overflow-mul-low
-overflow-mul-low c = let h = weight_small c.requires (omega arith) c.loop-i.invariant.weighed in omega (arith, digit_small c.first_move.result c.loop-i.weight (omega (arith, c.first_move.ensures)) h)
+pub overflow_mul-low : goal.overflow_mul-low
+overflow_mul-low c = let h = weight_small c.requires (omega arith) c.loop-i.invariant.weighed in omega (arith, digit_small c.first_move.result c.loop-i.weight (omega (arith, c.first_move.ensures)) h)
 
-pub overflow-add-low : goal.overflow-add-low
-overflow-add-low c =
+pub overflow_add-low : goal.overflow_add-low
+overflow_add-low c =
     let h = weight_small c.requires (omega arith) c.loop-i.invariant.weighed in
     omega (arith, digit_small c.first_move.result c.loop-i.weight (omega (arith, c.first_move.ensures)) h, c.loop-i.invariant.weighed.low)
 
-pub overflow-mul-weight : goal.overflow-mul-weight
-overflow-mul-weight c = let h = weight_small c.requires (omega arith) c.loop-i.invariant.weighed in omega arith
+pub overflow_mul-weight : goal.overflow_mul-weight
+overflow_mul-weight c = let h = weight_small c.requires (omega arith) c.loop-i.invariant.weighed in omega arith
 
 pub loop-i-preserved : goal.loop-i-preserved
 loop-i-preserved c =
-    lowered_more c.args.players c.args.highest c.loop-i.-i c.loop-i.limits c.loop-i.weight c.loop-i.low c.first_move.result (omega arith) c.first_move.ensures c.loop-i.invariant
+    lowered_more c.args.players c.args.highest c.loop-i._i c.loop-i.limits c.loop-i.weight c.loop-i.low c.first_move.result (omega arith) c.first_move.ensures c.loop-i.invariant
 
 pub returns : goal.returns
-returns c = lowered_all c.args.players c.args.highest c.loop-i.-i c.loop-i.limits c.loop-i.weight c.loop-i.low (omega arith) c.loop-i.invariant
+returns c = lowered_all c.args.players c.args.highest c.loop-i._i c.loop-i.limits c.loop-i.weight c.loop-i.low (omega arith) c.loop-i.invariant

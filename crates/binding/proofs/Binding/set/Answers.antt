@@ -3,9 +3,9 @@ use Rattle.binding.proofs.Binding.set.Goals as goal
 
 pub returns : goal.returns
 returns g c = record {
-  answer = c.in-ok-judged.ensures;
+  answer = c.in_ok-judged.ensures;
   entries = search rules;
-  lawful = c.put.ensures.lawful (g.G.Game.meaning c.args.self.now.game) c.args.self.now.group c.in-ok-judged.ensures.1;
+  lawful = c.put.ensures.lawful (g.G.Game.meaning c.args.self.now.game) c.args.self.now.group c.in_ok-judged.ensures.1;
   game = search rules;
   group = search rules;
 }

@@ -14,5 +14,5 @@ some_move m L a q h =
     none : (Player m a × (q < m.states) → ⊥) → ⊥
     none e = omega (arith, L.no_move a q e)
 
-pub is-member-requires : goal.is-member-requires
-is-member-requires g c = some_move (g.G.Game.meaning c.args.self.now.game) (g.G.Game.limits c.args.self.now.game) c.args.player c.args.state (omega arith)
+pub is_member-requires : goal.is_member-requires
+is_member-requires g c = some_move (g.G.Game.meaning c.args.self.now.game) (g.G.Game.limits c.args.self.now.game) c.args.player c.args.state (omega arith)

@@ -14,16 +14,16 @@ loop-each-preserved g c =
     let x = c.args.board.now.game in
     let m = g.G.Game.meaning x in
     let inv = c.loop-each.invariant in
-    let here = get_or c.args.calls.now c.loop-each.Each-index (Write 0 0 0 0) in (
+    let here = get_or c.args.calls.now c.loop-each.each-index (Write 0 0 0 0) in (
       c.call-answer.ensures.game ∙ inv.0,
-      c.push-reserved.ensures.len ∙ ap (λ n. n + 1) inv.1,
-      omega (arith, inv.2, c.push-reserved.ensures.capacity),
-      performs_more m (g.G.Game.limits x) c.args.calls.now c.loop-each.Each-index (Write 0 0 0 0) c.args.board.now.table c.loop-each.board.table c.call-answer.new.board.table
-          c.args.buffer.now c.loop-each.buffer c.call-answer.new.buffer (vec_items c.loop-each.answers) (vec_items c.push-reserved.new.self) c.call-answer.result
+      c.push_reserved.ensures.len ∙ ap (λ n. n + 1) inv.1,
+      omega (arith, inv.2, c.push_reserved.ensures.capacity),
+      performs_more m (g.G.Game.limits x) c.args.calls.now c.loop-each.each-index (Write 0 0 0 0) c.args.board.now.table c.loop-each.board.table c.call-answer.new.board.table
+          c.args.buffer.now c.loop-each.buffer c.call-answer.new.buffer (vec_items c.loop-each.answers) (vec_items c.push_reserved.new.self) c.call-answer.result
           c.loop-each-test.true inv.3
           (subst (λ y. DoesCall (g.G.Game.meaning y) here c.loop-each.board.table c.call-answer.new.board.table c.loop-each.buffer c.call-answer.new.buffer c.call-answer.result) inv.0 c.call-answer.ensures.does)
           c.loop-each.auto.buffer
-          c.push-reserved.ensures.items,
+          c.push_reserved.ensures.items,
     )
 
 pub returns : goal.returns
@@ -31,5 +31,5 @@ returns g c =
     let inv = c.loop-each.invariant in
     record {
       game = inv.0;
-      performs = performs_all (g.G.Game.meaning c.args.board.now.game) c.args.calls.now c.loop-each.Each-index c.args.board.now.table c.loop-each.board.table c.args.buffer.now c.loop-each.buffer (vec_items c.loop-each.answers) c.loop-each-test.false inv.3;
+      performs = performs_all (g.G.Game.meaning c.args.board.now.game) c.args.calls.now c.loop-each.each-index c.args.board.now.table c.loop-each.board.table c.args.buffer.now c.loop-each.buffer (vec_items c.loop-each.answers) c.loop-each-test.false inv.3;
     }

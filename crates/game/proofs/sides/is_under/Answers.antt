@@ -1,4 +1,4 @@
-use Rattle.std.proofs.Common.{◌≡◌, ℕ, ◌+◌, ◌-◌, ◌/◌, sym, refl, ap, ◌∙◌, arith}
+use Rattle.std.proofs.Common.{◌≡◌, ◌+◌, ◌-◌, ◌/◌, sym, refl, ap, ◌∙◌, arith}
 use Rattle.game.specs.Lists.{under}
 use Rattle.game.proofs.Under.{under_not, under_more, under_none}
 use Rattle.game.proofs.sides.is_under.Goals as goal

@@ -1,4 +1,4 @@
-use Rattle.std.proofs.Common.{◌≡◌, ap, ◌∙◌, subst}
+use Rattle.std.proofs.Common.{ap, ◌∙◌, subst}
 use Rattle.drill.specs.Meaning.{drill}
 use Rattle.binding.specs.Entries.{Judged}
 use Rattle.judged.proofs.Bindings.{taken}

@@ -5,4 +5,4 @@ use Rattle.judged.proofs.examples.bound_calls.Goals as goal
 
 pub returns : goal.returns
 unfolding bound_calls
-returns c = subst (λ l. IfOk c.table.result (λ v. vec_items v ≡ l)) (ap (judging_from 0 4) c.bound-rows.ensures) c.table.ensures
+returns c = subst (λ l. IfOk c.table.result (λ v. vec_items v ≡ l)) (ap (judging_from 0 4) c.bound_rows.ensures) c.table.ensures

@@ -1,4 +1,4 @@
-use Rattle.std.proofs.Common.{◌≡◌, set, ap, ◌∙◌, lit<}
+use Rattle.std.proofs.Common.{set, ap, ◌∙◌, lit<}
 use Rattle.binding.specs.Entries.{first_moves}
 use Rattle.judged.proofs.Bindings.{sends_0, sends_1, rests_2, rests_3, follows}
 use Rattle.judged.proofs.examples.bound_drill.Goals as goal

@@ -1,4 +1,4 @@
-use Rattle.std.proofs.Common.{◌≡◌, [], IfOk, vec_items, ap, ◌∙◌, subst, ap₂}
+use Rattle.std.proofs.Common.{◌≡◌, [], IfOk, vec_items, ◌∙◌, subst, ap₂}
 use Rattle.game.specs.Bound.{bound}
 use Rattle.drill.specs.Meaning.{drill}
 use Rattle.binding.specs.Entries.{entry_at}
@@ -11,5 +11,5 @@ returns c =
     let f = entry_at c.bound_drill.result.entries.choices in
     let game = ap₂ (λ T A. bound (drill T) A f) c.bound_drill.ensures.limit c.bound_drill.ensures.group in
     subst (λ l. IfOk c.answered.result (λ v. vec_items v ≡ l))
-    (ap₂ (λ m cs. answers m [] 0 cs) game (c.as-slice.ensures.value ∙ c.in-ok-calls.ensures) ∙ bound_to_book f c.bound_drill.ensures.entries)
+    (ap₂ (λ m cs. answers m [] 0 cs) game (c.as_slice.ensures.value ∙ c.in_ok-calls.ensures) ∙ bound_to_book f c.bound_drill.ensures.entries)
     c.answered.ensures

@@ -5,18 +5,18 @@ use Rattle.judged.proofs.examples.judged.Goals as goal
 
 pub returns-in-Drill : goal.returns-in-Drill
 returns-in-Drill c = record {
-  answers = subst (λ x. IfOk c.judge-drill.result (λ v. vec_items v ≡ expected x)) (sym c.in-Drill.is) c.judge-drill.ensures;
+  answers = subst (λ x. IfOk c.judge_drill.result (λ v. vec_items v ≡ expected x)) (sym c.in-Drill.is) c.judge_drill.ensures;
   examples = judged_examples;
 }
 
 pub returns-in-BoundDrill : goal.returns-in-BoundDrill
 returns-in-BoundDrill c = record {
-  answers = subst (λ x. IfOk c.judge-bound-drill.result (λ v. vec_items v ≡ expected x)) (sym c.in-BoundDrill.is) c.judge-bound-drill.ensures;
+  answers = subst (λ x. IfOk c.judge_bound_drill.result (λ v. vec_items v ≡ expected x)) (sym c.in-BoundDrill.is) c.judge_bound_drill.ensures;
   examples = judged_examples;
 }
 
 pub returns-in-Meeting : goal.returns-in-Meeting
 returns-in-Meeting c = record {
-  answers = subst (λ x. IfOk c.judge-meeting.result (λ v. vec_items v ≡ expected x)) (sym c.in-Meeting.is) c.judge-meeting.ensures;
+  answers = subst (λ x. IfOk c.judge_meeting.result (λ v. vec_items v ≡ expected x)) (sym c.in-Meeting.is) c.judge_meeting.ensures;
   examples = judged_examples;
 }

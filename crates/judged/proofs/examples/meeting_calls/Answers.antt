@@ -5,4 +5,4 @@ use Rattle.judged.proofs.examples.meeting_calls.Goals as goal
 
 pub returns : goal.returns
 unfolding meeting_calls
-returns c = subst (λ l. IfOk c.table.result (λ v. vec_items v ≡ l)) (ap (judging_from 0 3) c.meeting-rows.ensures) c.table.ensures
+returns c = subst (λ l. IfOk c.table.result (λ v. vec_items v ≡ l)) (ap (judging_from 0 3) c.meeting_rows.ensures) c.table.ensures

@@ -1,4 +1,4 @@
-use Rattle.std.proofs.Common.{◌≡◌, List, [], ◌∷◌, ◌++◌, vec_items, refl, ◌∙◌, append_assoc}
+use Rattle.std.proofs.Common.{◌≡◌, List, [], ◌∷◌, ◌++◌, vec_items, refl, append_assoc}
 use Rattle.std.proofs.lemmas.Slice.{pushed}
 use Rattle.calls.specs.declared.types.Call.{Call}
 use Rattle.calls.specs.declared.types.Call.TheVariants.{Tell}
@@ -11,7 +11,7 @@ in_turn a rs qs w t p q r s = rw (s, r, q, p) (simp append_assoc)
 pub returns : goal.returns
 returns c =
     in_turn (vec_items c.args.calls.now) (rounds_of c.args.rule c.args.times) (asks_of c.args.rule c.args.states) c.args.write (Tell c.args.rule)
-    (pushed (c.args.write ∷ []) refl c.in-ok-push.was c.push.ensures.items)
-    c.in-ok-rounds.ensures
-    (pushed (Tell c.args.rule ∷ []) refl c.in-ok-push-2.was c.push-2.ensures.items)
-    c.in-ok-asks.ensures
+    (pushed (c.args.write ∷ []) refl c.in_ok-push.was c.push.ensures.items)
+    c.in_ok-rounds.ensures
+    (pushed (Tell c.args.rule ∷ []) refl c.in_ok-push-2.was c.push-2.ensures.items)
+    c.in_ok-asks.ensures

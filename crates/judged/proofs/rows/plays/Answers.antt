@@ -6,5 +6,5 @@ use Rattle.judged.proofs.rows.plays.Goals as goal
 pub loop-state-preserved : goal.loop-state-preserved
 loop-state-preserved c =
     rw add-one (
-    pushed (Play c.args.rule c.loop-state.state ∷ []) c.loop-state.invariant c.in-ok-push.was c.push.ensures.items
+    pushed (Play c.args.rule c.loop-state.state ∷ []) c.loop-state.invariant c.in_ok-push.was c.push.ensures.items
     ∙ simp append_assoc)

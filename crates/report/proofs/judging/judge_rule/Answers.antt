@@ -7,24 +7,24 @@ pub returns-in-Some : goal.returns-in-Some
 returns-in-Some g c =
     let x = c.args.board.now.game in
     let m = g.G.Game.meaning x in
-    let calls : c.as-slice.result.now ≡ script m.states c.args.rule c.args.field = c.as-slice.ensures.value ∙ c.in-ok-calls.ensures ∙ ap (λ n. script n c.args.rule c.args.field) c.requires in
+    let calls : c.as_slice.result.now ≡ script m.states c.args.rule c.args.field = c.as_slice.ensures.value ∙ c.in_ok-calls.ensures ∙ ap (λ n. script n c.args.rule c.args.field) c.requires in
     record {
       game = c.perform.ensures.game;
-      judges = rule_refused m (g.G.Game.limits x) c.args.field c.args.rule c.args.board.now.table c.perform.new.board.table c.as-slice.result.now _ c.perform.new.buffer (vec_items c.in-ok-answers.answers)
-          calls c.in-ok-answers.ensures.performs c.in-Some.refusal
-          (ap first_refused (sym c.as-slice-2.ensures.value) ∙ sym c.refused.ensures ∙ c.in-Some.is);
+      judges = rule_refused m (g.G.Game.limits x) c.args.field c.args.rule c.args.board.now.table c.perform.new.board.table c.as_slice.result.now _ c.perform.new.buffer (vec_items c.in_ok-answers.answers)
+          calls c.in_ok-answers.ensures.performs c.in-Some.refusal
+          (ap first_refused (sym c.as_slice-2.ensures.value) ∙ sym c.refused.ensures ∙ c.in-Some.is);
     }
 
 pub returns : goal.returns
 returns g c =
     let x = c.args.board.now.game in
     let m = g.G.Game.meaning x in
-    let calls : c.as-slice.result.now ≡ script m.states c.args.rule c.args.field = c.as-slice.ensures.value ∙ c.in-ok-calls.ensures ∙ ap (λ n. script n c.args.rule c.args.field) c.requires in
+    let calls : c.as_slice.result.now ≡ script m.states c.args.rule c.args.field = c.as_slice.ensures.value ∙ c.in_ok-calls.ensures ∙ ap (λ n. script n c.args.rule c.args.field) c.requires in
     record {
       game = c.perform.ensures.game;
-      judges = rule_taken m (g.G.Game.limits x) c.args.field c.args.rule c.args.board.now.table c.perform.new.board.table c.as-slice.result.now _ c.perform.new.buffer (vec_items c.in-ok-answers.answers)
-          calls c.in-ok-answers.ensures.performs (record { rounds = c.rounds-rounds.result; marks = c.in-ok-marks.marks })
-          (ap first_refused (sym c.as-slice-2.ensures.value) ∙ sym c.refused.ensures ∙ c.in-default.is)
-          (c.rounds-rounds.ensures ∙ ap (last_told 0) c.as-slice-4.ensures.value)
-          (c.in-ok-marks.ensures ∙ ap all_shown c.as-slice-3.ensures.value);
+      judges = rule_taken m (g.G.Game.limits x) c.args.field c.args.rule c.args.board.now.table c.perform.new.board.table c.as_slice.result.now _ c.perform.new.buffer (vec_items c.in_ok-answers.answers)
+          calls c.in_ok-answers.ensures.performs (record { rounds = c.rounds-rounds.result; marks = c.in_ok-marks.marks })
+          (ap first_refused (sym c.as_slice-2.ensures.value) ∙ sym c.refused.ensures ∙ c.in_default.is)
+          (c.rounds-rounds.ensures ∙ ap (last_told 0) c.as_slice-4.ensures.value)
+          (c.in_ok-marks.ensures ∙ ap all_shown c.as_slice-3.ensures.value);
     }

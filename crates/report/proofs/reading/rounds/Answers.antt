@@ -7,7 +7,7 @@ use Rattle.report.proofs.Loops.{told_more}
 use Rattle.report.proofs.reading.rounds.Goals as goal
 
 pub loop-answer-preserved : goal.loop-answer-preserved
-loop-answer-preserved c = told_more c.args.answers.now c.loop-answer.answer-index (Refused Full) c.loop-answer-test.true c.loop-answer.rounds c.rounds-of-rounds.result c.loop-answer.invariant c.rounds-of-rounds.ensures
+loop-answer-preserved c = told_more c.args.answers.now c.loop-answer.answer-index (Refused Full) c.loop-answer-test.true c.loop-answer.rounds c.rounds_of-rounds.result c.loop-answer.invariant c.rounds_of-rounds.ensures
 
 pub returns : goal.returns
 returns c = c.loop-answer.invariant ∙ ap (last_told 0) (take_all c.loop-answer.answer-index c.args.answers.now c.loop-answer-test.false)

@@ -7,7 +7,7 @@ pub loop-state-init : goal.loop-state-init
 loop-state-init c = sym (append-nil (vec_items c.args.calls.now))
 
 pub loop-state-preserved : goal.loop-state-preserved
-loop-state-preserved c = asks_more c.args.rule c.loop-state.state (vec_items c.args.calls.now) (vec_items c.loop-state.calls) (vec_items c.push.new.self) c.loop-state.invariant c.in-ok-push.ensures.items
+loop-state-preserved c = asks_more c.args.rule c.loop-state.state (vec_items c.args.calls.now) (vec_items c.loop-state.calls) (vec_items c.push.new.self) c.loop-state.invariant c.in_ok-push.ensures.items
 
 pub returns : goal.returns
 returns c =

@@ -1,15 +1,16 @@
-use Rattle.std.proofs.Common.{ℕ, ◌-◌, length}
+use Rattle.std.proofs.Common.{ℕ, ◌-◌, ◌≤◌, length}
 use Rattle.book.specs.Tests.{Passes, each}
-use Rattle.book.specs.Bytes.{RuleBytes}
+use Rattle.book.specs.Fields.{spot}
 use Rattle.book.specs.Layout.{rules_tests}
-use Rattle.book.specs.Readers.{Walked}
+use Rattle.book.specs.Readers.{Stands}
 use Rattle.book.proofs.book.BookReader.rules.Given as goal
 
 -- the reader has passed some number of rules, and they passed their tests
 abbrev pub invariant-loop-self : goal.invariant-loop-self
 invariant-loop-self l =
     (k : ℕ)
-    × Walked RuleBytes k l.initial.self.records.fields l.self.records.fields
+    × Stands l.initial.self.records.fields.bytes.now (spot l.initial.self.records.fields.bytes.now l.initial.self.records.fields.at k) l.self.records.fields
+    × (l.self.records.fields.at ≤ length l.initial.self.records.fields.bytes.now)
     × Passes (each k (rules_tests l.initial.self.records.fields.bytes.now l.initial.self.records.fields.at))
 
 abbrev pub decreases-loop-self : goal.decreases-loop-self

@@ -1,9 +1,9 @@
-use Rattle.std.proofs.Common.{◌^◌, arith, rules}
-use Rattle.std.proofs.lemmas.Nat.{mul-le}
+use Rattle.std.proofs.Common.{arith}
+use Rattle.book.specs.Fields.{after}
+use Rattle.book.proofs.Walks.{spot_more}
 use Rattle.book.proofs.filed.FiledBook.spot.Goals as goal
 
-pub returns-else-self-eq0 : goal.returns-else-self-eq0
-returns-else-self-eq0 c =
-    let state = c.args.state in
-    let stride = c.args.self.now.stride in
-    record { is = search rules; near = omega (arith, mul-le state stride (2 ^ 8) (2 ^ 32) (omega arith) (omega arith)) }
+pub loop-k-preserved : goal.loop-k-preserved
+loop-k-preserved c =
+    let bs = c.args.self.now.bytes.now in
+    (spot_more bs (after bs 0) c.loop-k._k c.loop-k.at c.after-at-in-loop-k.result c.loop-k.invariant.0 c.after-at-in-loop-k.ensures.is, omega arith)

@@ -1,4 +1,4 @@
-use Rattle.std.proofs.Common.{◌≡◌, ℕ, ◌+◌, ◌-◌, ap, ◌∙◌, subst, arith}
+use Rattle.std.proofs.Common.{◌≡◌, ℕ, ◌+◌, ◌-◌, ap, ◌∙◌, arith}
 use Rattle.game.specs.Lists.{own, other, highest}
 use Rattle.game.proofs.Highest.{Turn, turn, highest_none}
 use Rattle.game.proofs.Division.{divided}
@@ -11,25 +11,25 @@ loop-player-init g c =
     let m = g.G.Game.meaning c.args.game.now in
     (highest_none (own m c.args.group c.args.state) (p + 1 - 1) (p - (p + 1 - 1)) (omega arith), highest_none (other m c.args.group c.args.state) (p + 1 - 1) (p - (p + 1 - 1)) (omega arith))
 
-facts : (g : given.Over) (c : goal.After-own-moves-mine g) → Turn (g.G.Game.meaning c.args.game.now) c.args.group c.args.state (c.loop-player.player - 1) c.players-players.result c.loop-player.choice c.loop-player.reply c.moves-moves.result c.own-moves-mine.result
+facts : (g : given.Over) (c : goal.After-own_moves-mine g) → Turn (g.G.Game.meaning c.args.game.now) c.args.group c.args.state (c.loop-player.player - 1) c.players-players.result c.loop-player.choice c.loop-player.reply c.moves-moves.result c.own_moves-mine.result
 facts g c =
-    turn (g.G.Game.meaning c.args.game.now) (g.G.Game.limits c.args.game.now) c.args.group c.args.state (c.loop-player.player - 1) c.players-players.result c.loop-player.choice c.loop-player.reply c.moves-moves.result c.own-moves-mine.result
-    c.players-players.ensures (omega arith) (omega arith) c.loop-player.invariant c.moves-moves.ensures c.own-moves-mine.ensures
+    turn (g.G.Game.meaning c.args.game.now) (g.G.Game.limits c.args.game.now) c.args.group c.args.state (c.loop-player.player - 1) c.players-players.result c.loop-player.choice c.loop-player.reply c.moves-moves.result c.own_moves-mine.result
+    c.players-players.ensures (omega arith) (omega arith) c.loop-player.invariant c.moves-moves.ensures c.own_moves-mine.ensures
 
-pub overflow-mul-choice : goal.overflow-mul-choice
-overflow-mul-choice g c = omega (arith, (facts g c).choice_room)
+pub overflow_mul-choice : goal.overflow_mul-choice
+overflow_mul-choice g c = omega (arith, (facts g c).choice_room)
 
-pub overflow-add-choice : goal.overflow-add-choice
-overflow-add-choice g c = let f = facts g c in omega arith
+pub overflow_add-choice : goal.overflow_add-choice
+overflow_add-choice g c = let f = facts g c in omega arith
 
-pub overflow-mul-reply : goal.overflow-mul-reply
-overflow-mul-reply g c = omega (arith, (facts g c).reply_room)
+pub overflow_mul-reply : goal.overflow_mul-reply
+overflow_mul-reply g c = omega (arith, (facts g c).reply_room)
 
-pub overflow-sub-reply : goal.overflow-sub-reply
-overflow-sub-reply g c = (facts g c).less
+pub overflow_sub-reply : goal.overflow_sub-reply
+overflow_sub-reply g c = (facts g c).less
 
-pub overflow-add-reply : goal.overflow-add-reply
-overflow-add-reply g c = let f = facts g c in omega arith
+pub overflow_add-reply : goal.overflow_add-reply
+overflow_add-reply g c = let f = facts g c in omega arith
 
 pub loop-player-preserved : goal.loop-player-preserved
 loop-player-preserved g c = let f = facts g c in (f.choice_next, f.reply_next)

@@ -1,4 +1,4 @@
-use Rattle.std.proofs.Common.{◌≡◌, ◌-◌, ◌≤◌}
+use Rattle.std.proofs.Common.{◌≡◌, ◌-◌}
 use Rattle.game.specs.Lists.{highest, own, other}
 use Rattle.game.proofs.sides.Sides.at.Given as goal
 

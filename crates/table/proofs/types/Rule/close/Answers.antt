@@ -1,4 +1,4 @@
-use Rattle.std.proofs.Common.{◌≡◌, ℕ, sym, subst, arith}
+use Rattle.std.proofs.Common.{◌≡◌, subst, arith}
 use Rattle.table.specs.Steps.{Closed}
 use Rattle.table.proofs.Passing.{closed_none, closed_more}
 use Rattle.table.proofs.types.Rule.close.Goals as goal

@@ -1,5 +1,4 @@
-use Rattle.std.proofs.Common.{◌≡◌, ℕ, ◌+◌, ◌≤◌, Bool, true, false, cond, sym, ◌∙◌, subst, arith}
-use Rattle.std.proofs.lemmas.Bool.{cond_both}
+use Rattle.std.proofs.Common.{◌≡◌, ℕ, ◌≤◌, Bool, true, false, cond, subst, arith}
 use Rattle.table.specs.Steps.{Passed}
 use Rattle.table.proofs.Passing.{passed_none, passed_more}
 use Rattle.table.proofs.types.Rule.pass.Goals as goal
@@ -17,12 +16,12 @@ loop-state-preserved g c =
     let many = (g.G.Game.limits c.args.game.now).many in (
       λ long.
           let p = c.loop-state.invariant.0 long in
-          passed_more m c.args.self.now c.args.sets.now c.loop-state.state c.loop-state.self c.loop-state.marked c.newly-marked.result c.new-mark-new.result (omega (arith, p.kept.long, many, c.states-states.ensures.0)) p c.new-mark-new.ensures c.newly-marked.ensures,
+          passed_more m c.args.self.now c.args.sets.now c.loop-state.state c.loop-state.self c.loop-state.marked c.newly-marked.result c.new_mark-new.result (omega (arith, p.kept.long, many, c.states-states.ensures.0)) p c.new_mark-new.ensures c.newly-marked.ensures,
       omega (arith, one_at_most _ c.newly-marked.result c.newly-marked.ensures, c.loop-state.invariant.1),
     )
 
-pub overflow-add-marked : goal.overflow-add-marked
-overflow-add-marked g c = omega (arith, one_at_most _ c.newly-marked.result c.newly-marked.ensures, c.loop-state.invariant.1, (g.G.Game.limits c.args.game.now).many, c.states-states.ensures.0)
+pub overflow_add-marked : goal.overflow_add-marked
+overflow_add-marked g c = omega (arith, one_at_most _ c.newly-marked.result c.newly-marked.ensures, c.loop-state.invariant.1, (g.G.Game.limits c.args.game.now).many, c.states-states.ensures.0)
 
 pub returns : goal.returns
 returns g c = λ long.

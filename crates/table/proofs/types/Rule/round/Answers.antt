@@ -1,4 +1,4 @@
-use Rattle.std.proofs.Common.{◌≡◌, ℕ, sym, ◌∙◌, subst, arith}
+use Rattle.std.proofs.Common.{ℕ, sym, ◌∙◌, subst, arith}
 use Rattle.table.specs.declared.types.Sets.{Sets}
 use Rattle.table.specs.Steps.{Closed}
 use Rattle.table.proofs.Passing.{moved, moved_is, rounded_on, rounded_closed}
@@ -12,10 +12,10 @@ returns-then-settled g c = λ long small.
     record {
       aim = c.aim-aim.result;
       aims = c.aim-aim.ensures;
-      rounded = rounded_closed m c.args.self.now c.pass-marked.new.self sets c.pass-marked.result c.moved-on-self.result p
-          (moved_is m c.args.self.now c.pass-marked.new.self sets m.states c.pass-marked.result c.moved-on-self.result p small c.moved-on-self.ensures)
+      rounded = rounded_closed m c.args.self.now c.pass-marked.new.self sets c.pass-marked.result c.moved_on-self.result p
+          (moved_is m c.args.self.now c.pass-marked.new.self sets m.states c.pass-marked.result c.moved_on-self.result p small c.moved_on-self.ensures)
           (sym c.if-settled.ensures) c.close.new.self
-          (subst (λ (n : ℕ). Closed n (moved c.pass-marked.new.self c.moved-on-self.result) c.close.new.self) c.states-states.ensures.0 (c.close.ensures (p.kept.long ∙ long)));
+          (subst (λ (n : ℕ). Closed n (moved c.pass-marked.new.self c.moved_on-self.result) c.close.new.self) c.states-states.ensures.0 (c.close.ensures (p.kept.long ∙ long)));
     }
 
 pub returns-else-settled : goal.returns-else-settled
@@ -26,8 +26,8 @@ returns-else-settled g c = λ long small.
     record {
       aim = c.aim-aim.result;
       aims = c.aim-aim.ensures;
-      rounded = rounded_on m c.args.self.now c.pass-marked.new.self sets c.pass-marked.result c.moved-on-self.result p
-          (moved_is m c.args.self.now c.pass-marked.new.self sets m.states c.pass-marked.result c.moved-on-self.result p small c.moved-on-self.ensures)
+      rounded = rounded_on m c.args.self.now c.pass-marked.new.self sets c.pass-marked.result c.moved_on-self.result p
+          (moved_is m c.args.self.now c.pass-marked.new.self sets m.states c.pass-marked.result c.moved_on-self.result p small c.moved_on-self.ensures)
           (sym c.if-settled.ensures);
     }
 

@@ -1,4 +1,4 @@
-use Rattle.std.proofs.Common.{◌≡◌, ℕ, ap, ◌∙◌}
+use Rattle.std.proofs.Common.{ℕ, ap, ◌∙◌}
 use Rattle.table.specs.Steps.{ask_table}
 use Rattle.table.proofs.Calls.{asks}
 use Rattle.table.proofs.types.Table.ask.Goals as goal

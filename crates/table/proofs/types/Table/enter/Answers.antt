@@ -1,4 +1,4 @@
-use Rattle.std.proofs.Common.{◌≡◌, set, Ok, sym, ap, ◌∙◌, subst, arith}
+use Rattle.std.proofs.Common.{set, Ok, sym, ap, ◌∙◌, subst, arith}
 use Rattle.table.specs.declared.types.Rule.{Rule}
 use Rattle.table.specs.Answers.{number_if}
 use Rattle.table.specs.Steps.{Wrote}

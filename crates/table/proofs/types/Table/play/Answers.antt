@@ -1,4 +1,4 @@
-use Rattle.std.proofs.Common.{◌<◌, sym, ◌∙◌, arith}
+use Rattle.std.proofs.Common.{◌<◌, sym, arith}
 use Rattle.std.proofs.lemmas.Bool.{lt-ltb, le-ltb}
 use Rattle.table.proofs.Books.{no_rule, no_state, play_refused, plays}
 use Rattle.table.proofs.types.Table.play.Goals as goal
@@ -18,5 +18,5 @@ pub returns : goal.returns
 returns g c = λ st p.
     let m = g.G.Game.meaning c.args.game.now in
     let l : c.args.state < m.states = omega (arith, c.states-states.ensures.0) in
-    plays m (g.G.Game.limits c.args.game.now) c.args.self.now st p c.args.rule c.args.state (lt-ltb c.args.rule c.args.self.now.count c.if-rule-self.false) c.yes-states-r.result c.yes-states-s.result
-    c.yes-states-r.ensures c.yes-states-s.ensures c.in-Ok.temporal c.choice.result l (sym c.in-Ok.ensures) (c.choice.ensures l)
+    plays m (g.G.Game.limits c.args.game.now) c.args.self.now st p c.args.rule c.args.state (lt-ltb c.args.rule c.args.self.now.count c.if-rule-self.false) c.yes_states-r.result c.yes_states-s.result
+    c.yes_states-r.ensures c.yes_states-s.ensures c.in-Ok.temporal c.choice.result l (sym c.in-Ok.ensures) (c.choice.ensures l)

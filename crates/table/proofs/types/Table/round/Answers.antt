@@ -1,4 +1,4 @@
-use Rattle.std.proofs.Common.{◌≡◌, ℕ, sym, ap, arith}
+use Rattle.std.proofs.Common.{ℕ, sym, ap, arith}
 use Rattle.std.proofs.lemmas.Bool.{ltb-true}
 use Rattle.table.proofs.Calls.{does_round, does_refused_round, tested}
 use Rattle.table.proofs.types.Table.round.Goals as goal

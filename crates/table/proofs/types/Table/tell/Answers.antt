@@ -1,4 +1,4 @@
-use Rattle.std.proofs.Common.{◌≡◌, sym, ◌∙◌, subst}
+use Rattle.std.proofs.Common.{sym, ◌∙◌, subst}
 use Rattle.table.specs.Shows.{Few}
 use Rattle.table.proofs.Calls.{tells_of, few_rounds}
 use Rattle.table.proofs.types.Table.tell.Goals as goal
