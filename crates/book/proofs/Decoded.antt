@@ -1,7 +1,7 @@
 -- Bytes that pass the tests are those of a content in range.
 use Rattle.std.proofs.Common.{◌≡◌, ℕ, zero, suc, ◌+◌, ◌-◌, ◌/◌, ◌%◌, ◌<◌, ◌≤◌, ◌⊎◌, List, [], ◌∷◌, ◌++◌, length, get_or, take, drop, sym, refl, ap, ◌∙◌, subst, inl, inr, append_assoc, arith, lit<, length-drop, length-take}
 use lib.Arith.{digits_div, digits_mod}
-use Rattle.std.specs.List.{flat_map, AllByRecursion as All}
+use Rattle.std.specs.List.{flat_map, AllByRecursion}
 use Rattle.std.proofs.ByRecursion.{All-push, All-from_get_or}
 use Rattle.std.proofs.lemmas.List.{append-nil, get_or-take, get_or-drop, get_or_past, length_push, flat_map_more, drop_more, drop-drop, drop_all, take-append-drop, length-take-le}
 use Rattle.std.proofs.lemmas.Bool.{cases_lt}
@@ -57,7 +57,7 @@ module _ (bs : List ℕ) (h : Small bs) (p : ℕ) (w : after bs p ≤ length bs)
 module _ {X : Type 0} (t : ℕ) (f : X → List ℕ) (Good : X → Type 0) (bs : List ℕ) (p : ℕ) where
   -- the first n of them
   abbrev Gathered : ℕ → Type 0
-  Gathered n = (xs : List X) × (length xs ≡ n) × All Good xs × (drop p bs ≡ flat_map (λ x. field t (f x)) xs ++ drop (spot bs p n) bs)
+  Gathered n = (xs : List X) × (length xs ≡ n) × AllByRecursion Good xs × (drop p bs ≡ flat_map (λ x. field t (f x)) xs ++ drop (spot bs p n) bs)
 
   gather : (n : ℕ) → ((k : ℕ) → k < n → (x : X) × Good x × Begins bs (spot bs p k) t (f x)) → Gathered n
   gather zero h = ([], refl, tt, refl)
@@ -178,7 +178,7 @@ module _ (bs : List ℕ) (p : ℕ) (l : p ≤ length bs) (h : Passes (all_rules 
       go (inl s) = absurd (omega (arith, spot_grows bs p (length bs)))
       go (inr r) = r
 
-  the_rules : Small bs → (rs : List RuleField) × All RuleFits rs × (drop p bs ≡ encode_rules rs)
+  the_rules : Small bs → (rs : List RuleField) × AllByRecursion RuleFits rs × (drop p bs ≡ encode_rules rs)
   the_rules small =
       let m = rules_many in
       let g = gather 3 rule_value RuleFits bs p m.0 (λ k u. rule_step bs small (spot bs p k) (rule_there k (omega (arith, m.1, spot_later bs p (suc k) m.0 u)))) in
@@ -228,7 +228,7 @@ module _ (bs : List ℕ) (small : Small bs) (h : Passes (book_tests bs)) where
             players_fit = g.1.1.0;
             states_fit = (omega (arith, q.1), omega (arith, q.1, small_value bs 0 small 1));
             started = omega (arith, q.1, g.1.1.1.0);
-            each_state = subst (λ x. All (StateFits P x) q.0) (sym q.1) q.2;
+            each_state = subst (λ x. AllByRecursion (StateFits P x) q.0) (sym q.1) q.2;
             each_rule = r.1;
             short = subst (λ x. length x ≤ 65535) (sym whole) h.0;
           };

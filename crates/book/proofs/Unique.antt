@@ -1,6 +1,6 @@
 -- No two contents in range have the same bytes.
 use Rattle.std.proofs.Common.{◌≡◌, ℕ, ◌-◌, ◌/◌, ◌%◌, List, [], ◌∷◌, ◌++◌, length, take, drop, sym, refl, ap, ◌∙◌, subst, append_assoc, div-add-mod', arith}
-use Rattle.std.specs.List.{flat_map, AllByRecursion as All}
+use Rattle.std.specs.List.{flat_map, AllByRecursion}
 use Rattle.std.proofs.lemmas.List.{take_at, drop_at}
 use Rattle.book.specs.declared.rules.RuleField.{RuleField}
 use Rattle.book.specs.Content.{State, field, heading_value, state_value, state_field, rule_value, encode, encode_rules, StateFits}
@@ -40,7 +40,7 @@ state_same P N q o a b e =
     let x = back_same q.counts q.nexts o.counts o.nexts n z in
     λ i. record { labels = l i; counts = c i; nexts = x i }
 
-states_same : (P N : ℕ) (qs os : List State) (r s : List ℕ) → length qs ≡ length os → All (StateFits P N) qs → All (StateFits P N) os → flat_map state_field qs ++ r ≡ flat_map state_field os ++ s → (qs ≡ os) × (r ≡ s)
+states_same : (P N : ℕ) (qs os : List State) (r s : List ℕ) → length qs ≡ length os → AllByRecursion (StateFits P N) qs → AllByRecursion (StateFits P N) os → flat_map state_field qs ++ r ≡ flat_map state_field os ++ s → (qs ≡ os) × (r ≡ s)
 states_same P N [] [] r s l h k e = (refl, e)
 states_same P N [] (o ∷ os) r s l h k e = absurd (omega arith)
 states_same P N (q ∷ qs) [] r s l h k e = absurd (omega arith)
@@ -76,7 +76,7 @@ one_content bs c d h k =
     let n : length c.states - 1 ≡ length d.states - 1 = cc f in
     let s : c.start ≡ d.start = cc f in
     let l : length c.states ≡ length d.states = omega (arith, h.fits.states_fit, k.fits.states_fit) in
-    let same : All (StateFits c.players (length c.states)) d.states = subst (λ x. All (StateFits x (length c.states)) d.states) (sym p) (subst (λ x. All (StateFits d.players x) d.states) (sym l) k.fits.each_state) in
+    let same : AllByRecursion (StateFits c.players (length c.states)) d.states = subst (λ x. AllByRecursion (StateFits x (length c.states)) d.states) (sym p) (subst (λ x. AllByRecursion (StateFits d.players x) d.states) (sym l) k.fits.each_state) in
     let g = states_same c.players (length c.states) c.states d.states _ _ l h.fits.each_state same (rest_same 1 (heading_value c) (heading_value d) _ _ e) in
     let r = rules_same c.rules d.rules g.1 in
     let q = g.0 in

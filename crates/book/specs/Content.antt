@@ -1,6 +1,6 @@
 -- What a book says, and its bytes.
 use Rattle.std.specs.Prelude.{◌≡◌, ℕ, ◌-◌, ◌/◌, ◌%◌, ◌<◌, ◌≤◌, List, [], ◌∷◌, ◌++◌, length, slice_index}
-use Rattle.std.specs.List.{flat_map, AllByRecursion as All}
+use Rattle.std.specs.List.{flat_map, AllByRecursion}
 use Rattle.game.specs.Structure.{product}
 use Rattle.book.specs.declared.rules.RuleField.{RuleField}
 use Rattle.book.specs.Records.{Within}
@@ -60,27 +60,27 @@ Below N t = t < N
 pub record StateFits (P N : ℕ) (q : State) : Type 0 where
   pub labelled : q.labels < 65536
   pub counted : length q.counts ≡ P
-  pub counts_fit : All (Within 1 15) q.counts
+  pub counts_fit : AllByRecursion (Within 1 15) q.counts
   pub few : vectors_of q ≤ 4096
   pub led : length q.nexts ≡ vectors_of q
-  pub nexts_fit : All (Below N) q.nexts
+  pub nexts_fit : AllByRecursion (Below N) q.nexts
 
 -- each part of a rule is a byte; nothing else is asked of it
 abbrev pub RuleFits : RuleField → Type 0
-RuleFits r = All Byte (rule_value r)
+RuleFits r = AllByRecursion Byte (rule_value r)
 
 -- a content is in range
 pub record Fits (c : Content) : Type 0 where
   pub players_fit : Within 1 6 c.players
   pub states_fit : Within 1 256 (length c.states)
   pub started : c.start < length c.states
-  pub each_state : All (StateFits c.players (length c.states)) c.states
-  pub each_rule : All RuleFits c.rules
+  pub each_state : AllByRecursion (StateFits c.players (length c.states)) c.states
+  pub each_rule : AllByRecursion RuleFits c.rules
   pub short : length (encode c) ≤ 65535
 
 -- rules alone are in range
 pub record RulesFit (rs : List RuleField) : Type 0 where
-  pub each_rule : All RuleFits rs
+  pub each_rule : AllByRecursion RuleFits rs
   pub short : length (encode_rules rs) ≤ 65535
 
 -- bs are the bytes of c, which is in range
