@@ -3,7 +3,7 @@
 
 usage: python3 tools/respell_names.py [--list]        at the top of the repository
 
-A name that specs/ or proofs/ declare and that has a dash is written in upper camel case if it begins with a capital (a type or a
+A name that specs/ or proofs/ declare, import under it or bind, and that has a dash, is written in upper camel case if it begins with a capital (a type or a
 fact), and in snake case otherwise: In-range -> InRange, move-of -> move_of. A name that a `ghost use` gives in mixed case is written
 in snake case: highestOf -> highest_of. Names that the language makes of the code (goals, and the steps and fields of a goal's
 context) are left, as are comments, strings, functions of src/ and must-fail edits. A second run changes nothing.
@@ -17,6 +17,9 @@ import sys
 
 WORD = r"[^\s(){}\[\],;.«»@\"\\|]+"
 TOKEN = re.compile(r"«[^»]*»|\"(?:[^\"\\]|\\.)*\"|" + WORD)
+# Two variables of one clause, and a lemma named after a word of the older library.
+OTHERS = {"e-r": "e_r", "e-s": "e_s", "getD_two": "get_or_two"}
+
 # Where the code has a function of the plain name, a definition comes in under another one.
 BESIDE_A_FUNCTION = {
     "drillCalls": "calls_of_drill",
@@ -56,6 +59,9 @@ def declared_names(texts):
             found.update(re.findall(r"^\s+(" + WORD + r") : ", code))
             found.update(re.findall(r"^\s*\| (" + WORD + r") : ", code))
             found.update(re.findall(r"\blet (" + WORD + r") [:=]", code))
+            found.update(re.findall(r"^(?:ghost )?use .*?\bas (" + WORD + ")", code))
+            for names in re.findall(r"[({]((?:" + WORD + r" )+): ", code):
+                found.update(names.split())
             for fields in re.findall(r"record \{([^}]*)\}", code):
                 found.update(re.findall(r"(?:^|;)\s*(" + WORD + r") :", fields))
     return found
@@ -78,7 +84,7 @@ def renamings():
     proofs = [open(p, encoding="utf-8").read() for p in paths(".antt")]
     sources = [open(p, encoding="utf-8").read() for p in paths(".rt")]
     made = made_names(proofs)
-    new = {}
+    new = dict(OTHERS)
     for name in declared_names(proofs):
         if re.search(r"\w-\w", name) and name not in made:
             new[name] = spelled(name)
@@ -87,6 +93,8 @@ def renamings():
             if line.startswith("ghost use"):
                 for name in ALIAS.findall(line):
                     new[name] = BESIDE_A_FUNCTION.get(name, snake(name))
+                for name in re.findall(r"\bas «?(\w+-[\w-]+)", line):
+                    new[name] = spelled(name)
     return new, made
 
 

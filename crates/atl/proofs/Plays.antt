@@ -34,16 +34,16 @@ closed_below n Open = refl
 closed_below n (Yes k) = refl
 closed_below n (No k) = refl
 
-module _ (m : Structure) (L : Limits m) (A p : ℕ) (in-m : p < m.states) where
+module _ (m : Structure) (L : Limits m) (A p : ℕ) (in_m : p < m.states) where
   pub all_first_choice : Choice m A p (all_first m A p)
-  all_first_choice = box_choice m A p L in-m _ (box_lowest (own m A p) 0 m.players (own_digits m A p L))
+  all_first_choice = box_choice m A p L in_m _ (box_lowest (own m A p) 0 m.players (own_digits m A p L))
 
   -- c is a choice that keeps to I if any does
   abbrev pub Keeps : (ℕ → Bool) → ℕ → Type 0
   Keeps I c = Serves m (holds m Can A) true A p I c
 
   keeps_to : (I : ℕ → Bool) → Keeps I (keep_to m A p I)
-  keeps_to I = go (first_serving m A p I) (reads_serving m A p I L in-m)
+  keeps_to I = go (first_serving m A p I) (reads_serving m A p I L in_m)
     where
       go : (o : Option ℕ) → Serving m A p I o → Choice m A p (or_else (all_first m A p) o) × (is_some o ≡ true → EveryReply m A p I true (or_else (all_first m A p) o))
       go None h = (all_first_choice, λ e. absurd (false≢true e))
@@ -51,7 +51,7 @@ module _ (m : Structure) (L : Limits m) (A p : ℕ) (in-m : p < m.states) where
 
   -- where all is allowed, so is the first
   keeps_all : Keeps (λ t. true) (all_first m A p)
-  keeps_all = (all_first_choice, λ e r h. let l = (divided m A p L in-m).leads (all_first m A p) r all_first_choice h in (l.0, l.1, refl))
+  keeps_all = (all_first_choice, λ e r h. let l = (divided m A p L in_m).leads (all_first m A p) r all_first_choice h in (l.0, l.1, refl))
 
   keeps_as : (I J : ℕ → Bool) (c d : ℕ) → Keeps J d → ((t : ℕ) → I t ≡ J t) → c ≡ d → Keeps I c
   keeps_as I J c d h e f = subst (Keeps I) (sym f) (subst (λ X. Keeps X d) (sym (fun_ext e)) h)
@@ -95,20 +95,20 @@ module _ (m : Structure) (L : Limits m) (A p : ℕ) (in-m : p < m.states) where
       (ap (λ x. book l R S k Unless (closed (Strategic Can Unless) true x)) (unless_flip hold R S k p))
 
 -- the playbook looks at the states alone
-module _ (m : Structure) (L : Limits m) (A q : ℕ) (in-m : q < m.states) (M M' : ℕ → Mark) (R R' S S' : ℕ → Bool)
-    (same-M : (t : ℕ) → t < m.states → M t ≡ M' t) (same-R : (t : ℕ) → t < m.states → R t ≡ R' t) (same-S : (t : ℕ) → t < m.states → S t ≡ S' t) where
+module _ (m : Structure) (L : Limits m) (A q : ℕ) (in_m : q < m.states) (M M' : ℕ → Mark) (R R' S S' : ℕ → Bool)
+    (same_M : (t : ℕ) → t < m.states → M t ≡ M' t) (same_R : (t : ℕ) → t < m.states → R t ≡ R' t) (same_S : (t : ℕ) → t < m.states → S t ≡ S' t) where
   keep_local : (X Y : ℕ → Bool) → ((t : ℕ) → t < m.states → X t ≡ Y t) → keep_to m A q X ≡ keep_to m A q Y
-  keep_local X Y e = ap (or_else (all_first m A q)) (serving_local m L A q in-m X Y e)
+  keep_local X Y e = ap (or_else (all_first m A q)) (serving_local m L A q in_m X Y e)
 
   play_local : (o : Temporal) (x : Mark) → play_at m A M R S o q x ≡ play_at m A M' R' S' o q x
   play_local o Open = refl
-  play_local Next (Yes n) = keep_local R R' same-R
-  play_local Until (Yes n) = ap (cond (eqb n 0) (all_first m A q)) (keep_local (yes_states_below M n) (yes_states_below M' n) (λ t l. ap (yes_below n) (same-M t l)))
-  play_local Unless (Yes n) = ap₂ (λ b c. cond b (all_first m A q) c) (same-S q in-m) (keep_local (yes_states M) (yes_states M') (λ t l. ap is_yes (same-M t l)))
+  play_local Next (Yes n) = keep_local R R' same_R
+  play_local Until (Yes n) = ap (cond (eqb n 0) (all_first m A q)) (keep_local (yes_states_below M n) (yes_states_below M' n) (λ t l. ap (yes_below n) (same_M t l)))
+  play_local Unless (Yes n) = ap₂ (λ b c. cond b (all_first m A q) c) (same_S q in_m) (keep_local (yes_states M) (yes_states M') (λ t l. ap is_yes (same_M t l)))
   play_local o (No n) = refl
 
   pub playbook_local : (o : Temporal) → playbook m A M R S o q ≡ playbook m A M' R' S' o q
-  playbook_local o = ap (play_at m A M R S o q) (same-M q in-m) ∙ play_local o (M' q)
+  playbook_local o = ap (play_at m A M R S o q) (same_M q in_m) ∙ play_local o (M' q)
 
 -- the mark of an until is the one that its rounds gave
 until_number : (x : Mark) (j : ℕ) → closed (Strategic Can Until) true x ≡ Yes j → x ≡ Yes j
@@ -123,29 +123,29 @@ module _ (m : Structure) (L : Limits m) (o : Temporal) (A l : ℕ) (r s : Formul
   pub book_strategy : Strategy m A g
   book_strategy p b = (serves p b).0
 
-  module _ (q : ℕ) (in-m : q < m.states) (ρ : Run) (out : Outcome m A g q ρ) where
+  module _ (q : ℕ) (in_m : q < m.states) (ρ : Run) (out : Outcome m A g q ρ) where
     stays_in : Inside m.states ρ
-    stays_in = inside m L A g q ρ in-m book_strategy out
+    stays_in = inside m L A g q ρ in_m book_strategy out
 
     obeys : Obeys (holds m Can A) true (aim (holds m Can A) R S o k true) ρ
     obeys = serves_obeys m L A (holds m Can A) true (aim (holds m Can A) R S o k true) g serves q ρ stays_in out
 
 in_time : (m : Structure) (L : Limits m) (o : Temporal) (A l : ℕ) (r s : Formula) (R S : ℕ → Bool) (k : ℕ) → KnowsParts m (Strategic Can o) r s R S → (d : Settled m (Strategic Can o) A l R S k) (g : ℕ → ℕ) (plays : PlaysBook m A l o R S k g)
     → o ≡ Until → (q j : ℕ) → q < m.states → final m (Strategic Can o) A l R S k q ≡ Yes j → (ρ : Run) → Outcome m A g q ρ → MeetsUntilWithin j (Satisfies m r) (Satisfies m s) ρ
-in_time m L Next A l r s R S k parts d g plays e q j in-m n ρ out = absurd (let z : ◌≡◌ {A = ℕ} 0 1 = cc in omega arith)
-in_time m L Until A l r s R S k parts d g plays e q j in-m n ρ out =
+in_time m L Next A l r s R S k parts d g plays e q j in_m n ρ out = absurd (let z : ◌≡◌ {A = ℕ} 0 1 = cc in omega arith)
+in_time m L Until A l r s R S k parts d g plays e q j in_m n ρ out =
     let hold = holds m Can A in
-    let b = stays_in m L Until A l r s R S k d g plays q in-m ρ out in
-    let u = reach hold R S k j ρ (obeys m L Until A l r s R S k d g plays q in-m ρ out) j (le_refl j) (ap (until_marks hold R S k) out.from ∙ until_number _ j n) in
+    let b = stays_in m L Until A l r s R S k d g plays q in_m ρ out in
+    let u = reach hold R S k j ρ (obeys m L Until A l r s R S k d g plays q in_m ρ out) j (le_refl j) (ap (until_marks hold R S k) out.from ∙ until_number _ j n) in
     (u.0, u.1, (parts.1 (ρ u.0) (b u.0)).0 u.2, λ i h. (parts.0 (ρ i) (b i)).0 (u.3 i h))
-in_time m L Unless A l r s R S k parts d g plays e q j in-m n ρ out = absurd (let z : ◌≡◌ {A = ℕ} 0 1 = cc in omega arith)
+in_time m L Unless A l r s R S k parts d g plays e q j in_m n ρ out = absurd (let z : ◌≡◌ {A = ℕ} 0 1 = cc in omega arith)
 
 pub playbook_right : EveryPlaybookRight
 playbook_right m L o A l r s R S k parts d g plays = record {
   is_strategy = book_strategy m L o A l r s R S k d g plays;
-  forces = λ q in-m e ρ out.
-      let b = stays_in m L o A l r s R S k d g plays q in-m ρ out in
-      goal_there m Can r s R S ρ b o parts (run_right m L Can A l R S o k d true ρ b (ap (yes m (Strategic Can o) A l R S k) out.from ∙ e) (obeys m L o A l r s R S k d g plays q in-m ρ out));
+  forces = λ q in_m e ρ out.
+      let b = stays_in m L o A l r s R S k d g plays q in_m ρ out in
+      goal_there m Can r s R S ρ b o parts (run_right m L Can A l R S o k d true ρ b (ap (yes m (Strategic Can o) A l R S k) out.from ∙ e) (obeys m L o A l r s R S k d g plays q in_m ρ out));
   in_time = in_time m L o A l r s R S k parts d g plays;
 }
 

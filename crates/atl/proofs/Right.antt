@@ -97,8 +97,8 @@ module _ (m : Structure) (L : Limits m) (w : Modality) (A l : ℕ) (R S : ℕ �
   -- so one side brings about the goal where the rule says yes, and the other its opposite where it says no
   pub answer_comes : (r s : Formula) (o : Temporal) (k : ℕ) → KnowsParts m (Strategic w o) r s R S → Settled m (Strategic w o) A l R S k → (q : ℕ) → q < m.states → (a : Bool) → yes m (Strategic w o) A l R S k q ≡ a
       → Comes m w A a (Meets a (goal o (Satisfies m r) (Satisfies m s))) q
-  answer_comes r s o k parts d q in-m a e =
-      comes m L A w a (aim (holds m w A) R S o k a) (Meets a (goal o (Satisfies m r) (Satisfies m s))) q in-m
+  answer_comes r s o k parts d q in_m a e =
+      comes m L A w a (aim (holds m w A) R S o k a) (Meets a (goal o (Satisfies m r) (Satisfies m s))) q in_m
       (λ ρ from b f. meets_there m w r s R S ρ b o parts a (run_right o k d a ρ b (ap (yes m (Strategic w o) A l R S k) from ∙ e) f))
 
 -- a strategy that makes no use of its memory
@@ -132,16 +132,16 @@ no_decided f x P d = Decides-at (is_no (closed f true x)) _ (closed_no f x) (Dec
 no_not_yes : (f : Kind) (x : Mark) → is_no (closed f true x) ≡ true → is_yes (closed f true x) ≡ false
 no_not_yes f x e = not-true _ (sym (closed_no f x) ∙ e)
 
-module _ (m : Structure) (L : Limits m) (o : Temporal) (A l : ℕ) (r s : Formula) (R S : ℕ → Bool) (k q : ℕ) (in-m : q < m.states) where
+module _ (m : Structure) (L : Limits m) (o : Temporal) (A l : ℕ) (r s : Formula) (R S : ℕ → Bool) (k q : ℕ) (in_m : q < m.states) where
   abbrev G : Goal
   G = goal o (Satisfies m r) (Satisfies m s)
 
   module _ (parts : KnowsParts m (Strategic Can o) r s R S) (d : Settled m (Strategic Can o) A l R S k) where
     a_yes : yes m (Strategic Can o) A l R S k q ≡ true → SomeStrategyForces m A G q
-    a_yes e = answer_comes m L Can A l R S r s o k parts d q in-m true e
+    a_yes e = answer_comes m L Can A l R S r s o k parts d q in_m true e
 
     a_miss : yes m (Strategic Can o) A l R S k q ≡ false → EachRememberingAllows m A (Misses G) q
-    a_miss e = answer_comes m L Can A l R S r s o k parts d q in-m false e
+    a_miss e = answer_comes m L Can A l R S r s o k parts d q in_m false e
 
     a_no : yes m (Strategic Can o) A l R S k q ≡ false → SomeRememberingForces m A G q → ⊥
     a_no e = not_both m A G q (a_miss e)
@@ -161,10 +161,10 @@ module _ (m : Structure) (L : Limits m) (o : Temporal) (A l : ℕ) (r s : Formul
 
   module _ (parts : KnowsParts m (Strategic Despite o) r s R S) (d : Settled m (Strategic Despite o) A l R S k) where
     d_yes : yes m (Strategic Despite o) A l R S k q ≡ true → EachRememberingAllows m A G q
-    d_yes e = answer_comes m L Despite A l R S r s o k parts d q in-m true e
+    d_yes e = answer_comes m L Despite A l R S r s o k parts d q in_m true e
 
     d_miss : yes m (Strategic Despite o) A l R S k q ≡ false → SomeStrategyForces m A (Misses G) q
-    d_miss e = answer_comes m L Despite A l R S r s o k parts d q in-m false e
+    d_miss e = answer_comes m L Despite A l R S r s o k parts d q in_m false e
 
     d_no : yes m (Strategic Despite o) A l R S k q ≡ false → EachStrategyAllows m A G q → ⊥
     d_no e = not_allowed m A G q (d_miss e)
@@ -180,30 +180,30 @@ module _ (m : Structure) (L : Limits m) (o : Temporal) (A l : ℕ) (r s : Formul
     }
 
 pub can_right : EveryCanRight
-can_right m L o A l r s R S k parts d q in-m = can_here m L o A l r s R S k q in-m parts d
+can_right m L o A l r s R S k parts d q in_m = can_here m L o A l r s R S k q in_m parts d
 
 pub despite_right : EveryDespiteRight
-despite_right m L o A l r s R S k parts d q in-m = despite_here m L o A l r s R S k q in-m parts d
+despite_right m L o A l r s R S k parts d q in_m = despite_here m L o A l r s R S k q in_m parts d
 
 -- a strategic rule, by its word
 strategic_decides : (m : Structure) → Limits m → (w : Modality) (o : Temporal) (A l : ℕ) (r s : Formula) (R S : ℕ → Bool) (k : ℕ) → KnowsParts m (Strategic w o) r s R S → Settled m (Strategic w o) A l R S k
     → (q : ℕ) → q < m.states → Decides (yes m (Strategic w o) A l R S k q) (Strategically w m A (goal o (Satisfies m r) (Satisfies m s)) q)
-strategic_decides m L Can o A l r s R S k parts d q in-m = can_decides m L o A l r s R S k q in-m parts d
-strategic_decides m L Despite o A l r s R S k parts d q in-m = despite_decides m L o A l r s R S k q in-m parts d
+strategic_decides m L Can o A l r s R S k parts d q in_m = can_decides m L o A l r s R S k q in_m parts d
+strategic_decides m L Despite o A l r s R S k parts d q in_m = despite_decides m L o A l r s R S k q in_m parts d
 
 pub rule_decides : (m : Structure) → Limits m → (f : Kind) (A l : ℕ) (r s : Formula) (R S : ℕ → Bool) (k : ℕ) → KnowsParts m f r s R S → Settled m f A l R S k
     → (q : ℕ) → q < m.states → Decides (yes m f A l R S k q) (Satisfies m (rule f A l r s) q)
-rule_decides m L f A l r s R S zero parts d q in-m = absurd (false≢true d)
-rule_decides m L Label A l r s R S (suc k) parts d q in-m = Decides-at _ _ (once_yes Label (labelled m l q) k) (Decides-eqb _ 1)
-rule_decides m L Not A l r s R S (suc k) parts d q in-m = Decides-at _ _ (once_yes Not _ k) (Decides-not (R q) (parts q in-m))
-rule_decides m L Or A l r s R S (suc k) parts d q in-m = Decides-at _ _ (once_yes Or _ k) (Decides-or (R q) (S q) (parts.0 q in-m) (parts.1 q in-m))
-rule_decides m L (Strategic w Next) A l r s R S (suc k) parts d q in-m = strategic_decides m L w Next A l r s R S (suc k) parts d q in-m
-rule_decides m L (Strategic w Until) A l r s R S (suc k) parts d q in-m = strategic_decides m L w Until A l r s R S (suc k) parts d q in-m
-rule_decides m L (Strategic w Unless) A l r s R S (suc k) parts d q in-m = strategic_decides m L w Unless A l r s R S (suc k) parts d q in-m
+rule_decides m L f A l r s R S zero parts d q in_m = absurd (false≢true d)
+rule_decides m L Label A l r s R S (suc k) parts d q in_m = Decides-at _ _ (once_yes Label (labelled m l q) k) (Decides-eqb _ 1)
+rule_decides m L Not A l r s R S (suc k) parts d q in_m = Decides-at _ _ (once_yes Not _ k) (Decides-not (R q) (parts q in_m))
+rule_decides m L Or A l r s R S (suc k) parts d q in_m = Decides-at _ _ (once_yes Or _ k) (Decides-or (R q) (S q) (parts.0 q in_m) (parts.1 q in_m))
+rule_decides m L (Strategic w Next) A l r s R S (suc k) parts d q in_m = strategic_decides m L w Next A l r s R S (suc k) parts d q in_m
+rule_decides m L (Strategic w Until) A l r s R S (suc k) parts d q in_m = strategic_decides m L w Until A l r s R S (suc k) parts d q in_m
+rule_decides m L (Strategic w Unless) A l r s R S (suc k) parts d q in_m = strategic_decides m L w Unless A l r s R S (suc k) parts d q in_m
 
 pub rule_right : EveryRuleRight
-rule_right m L f A l r s R S k parts d q in-m =
-    let e = rule_decides m L f A l r s R S k parts d q in-m in
+rule_right m L f A l r s R S k parts d q in_m =
+    let e = rule_decides m L f A l r s R S k parts d q in_m in
     record { yes_right = e; no_right = no_decided f (marks m f A l R S k q) _ e }
 
 -- a rule is settled after one round more than there are states
@@ -211,13 +211,13 @@ pub settled_last : (m : Structure) → Limits m → (f : Kind) (A l : ℕ) (R S 
 settled_last m L f A l R S = let c = settling m L f A l R S in (c.lasts c.comes.0 (suc m.states) c.comes.2 c.comes.1).0
 
 -- the mark that a round gives is the one after the last round
-module _ (m : Structure) (L : Limits m) (f : Kind) (A l : ℕ) (R S : ℕ → Bool) (k q : ℕ) (in-m : q < m.states) where
+module _ (m : Structure) (L : Limits m) (f : Kind) (A l : ℕ) (R S : ℕ → Bool) (k q : ℕ) (in_m : q < m.states) where
   last_mark : is_open (marks m f A l R S k q) ≡ false → marks m f A l R S (suc m.states) q ≡ marks m f A l R S k q
   last_mark e =
       let c = settling m L f A l R S in
       ⊎_elim
       (λ h. c.kept k (suc m.states) q (omega arith) e)
-      (λ h. sym ((c.lasts (suc m.states) k (settled_last m L f A l R S) h).1 q in-m))
+      (λ h. sym ((c.lasts (suc m.states) k (settled_last m L f A l R S) h).1 q in_m))
       (cases_lt k (suc m.states))
 
   last_yes : (x : Mark) → is_yes x ≡ true → (is_open x ≡ false) × (is_yes (closed f true x) ≡ true)
@@ -231,12 +231,12 @@ module _ (m : Structure) (L : Limits m) (f : Kind) (A l : ℕ) (R S : ℕ → Bo
   last_no (No n) e = (refl, refl)
 
 pub mark_right : EveryMarkRight
-mark_right m L f A l r s R S k parts q in-m =
-    let e = rule_right m L f A l r s R S (suc m.states) parts (settled_last m L f A l R S) q in-m in
+mark_right m L f A l r s R S k parts q in_m =
+    let e = rule_right m L f A l r s R S (suc m.states) parts (settled_last m L f A l R S) q in_m in
     let x = marks m f A l R S k q in
     record {
-      yes_right = λ h. let p = last_yes m L f A l R S k q in-m x h in e.yes_right.0 (ap (λ y. is_yes (closed f true y)) (last_mark m L f A l R S k q in-m p.0) ∙ p.1);
-      no_right = λ h. let p = last_no m L f A l R S k q in-m x h in e.no_right.0 (ap (λ y. is_no (closed f true y)) (last_mark m L f A l R S k q in-m p.0) ∙ p.1);
+      yes_right = λ h. let p = last_yes m L f A l R S k q in_m x h in e.yes_right.0 (ap (λ y. is_yes (closed f true y)) (last_mark m L f A l R S k q in_m p.0) ∙ p.1);
+      no_right = λ h. let p = last_no m L f A l R S k q in_m x h in e.no_right.0 (ap (λ y. is_no (closed f true y)) (last_mark m L f A l R S k q in_m p.0) ∙ p.1);
     }
 
 pub enough : (n : ℕ) → Enough n (n + 1)

@@ -34,14 +34,14 @@ Brought m Can A q I false = OthersBring m A q I false
 Brought m Despite A q I true = OthersBring m A q I true
 Brought m Despite A q I false = GroupBrings m A q I false
 
-module _ (m : Structure) (L : Limits m) (A q : ℕ) (in-m : q < m.states) where
+module _ (m : Structure) (L : Limits m) (A q : ℕ) (in_m : q < m.states) where
   pub brought : (w : Modality) (I : ℕ → Bool) → Brought m w A q I (holds m w A q I)
-  brought Can I = go (first_serving m A q I) (reads_serving m A q I L in-m)
+  brought Can I = go (first_serving m A q I) (reads_serving m A q I L in_m)
     where
       go : (o : Option ℕ) → Serving m A q I o → Brought m Can A q I (is_some o)
       go None h = h
       go (Some c) h = (c, h.0, h.1)
-  brought Despite I = go (all_answered m A q I) (reads_answering m A q I L in-m)
+  brought Despite I = go (all_answered m A q I) (reads_answering m A q I L in_m)
     where
       go : (b : Bool) → Answering m A q I b → Brought m Despite A q I b
       go true h = h
@@ -50,7 +50,7 @@ module _ (m : Structure) (L : Limits m) (A q : ℕ) (in-m : q < m.states) where
   -- a step of a choice stays among the states
   pub stays : (c t : ℕ) → Choice m A q c → Step m A q c t → t < m.states
   stays c t h s =
-      let l = (divided m A q L in-m).leads c s.0 h s.1 in
+      let l = (divided m A q L in_m).leads c s.0 h s.1 in
       let e : l.0 ≡ t = cc (l.1, s.2) in
       subst (λ n. n < m.states) e l.2
 
@@ -64,8 +64,8 @@ module _ (m : Structure) (L : Limits m) (A q : ℕ) (in-m : q < m.states) where
   -- some step of a choice, and one to where some reply leads
   pub some_step : (c : ℕ) → Choice m A q c → (t : ℕ) × Step m A q c t
   some_step c h =
-      let r = (divided m A q L in-m).some_reply in
-      let l = (divided m A q L in-m).leads c r.0 h r.1 in
+      let r = (divided m A q L in_m).some_reply in
+      let l = (divided m A q L in_m).leads c r.0 h r.1 in
       (l.0, (r.0, r.1, l.1))
 
   pub reply_step : (I : ℕ → Bool) (a : Bool) (c : ℕ) → SomeReply m A q I a c → (t : ℕ) × Step m A q c t × (I t ≡ a)
@@ -79,8 +79,8 @@ module _ (m : Structure) (L : Limits m) (A q : ℕ) (in-m : q < m.states) where
 
   somewhere : (w : Modality) (I : ℕ → Bool) (a : Bool) → Brought m w A q I a → (t : ℕ) × (I t ≡ a)
   somewhere Can I true h = let s = some_step h.0 h.1 in (s.0, step_into I true h.0 s.0 h.2 s.1)
-  somewhere Can I false h = let c = (divided m A q L in-m).some_choice in let s = reply_step I false c.0 (h c.0 c.1) in (s.0, s.2)
-  somewhere Despite I true h = let c = (divided m A q L in-m).some_choice in let s = reply_step I true c.0 (h c.0 c.1) in (s.0, s.2)
+  somewhere Can I false h = let c = (divided m A q L in_m).some_choice in let s = reply_step I false c.0 (h c.0 c.1) in (s.0, s.2)
+  somewhere Despite I true h = let c = (divided m A q L in_m).some_choice in let s = reply_step I true c.0 (h c.0 c.1) in (s.0, s.2)
   somewhere Despite I false h = let s = some_step h.0 h.1 in (s.0, step_into I false h.0 s.0 h.2 s.1)
 
   -- two answers of one power agree somewhere
@@ -100,7 +100,7 @@ module _ (m : Structure) (L : Limits m) (A q : ℕ) (in-m : q < m.states) where
 
   -- so the smallest choice that serves is the same for both
   pub serving_local : (X Y : ℕ → Bool) → ((t : ℕ) → t < m.states → X t ≡ Y t) → first_serving m A q X ≡ first_serving m A q Y
-  serving_local X Y e = go (first_serving m A q X) (first_serving m A q Y) (reads_serving m A q X L in-m) (reads_serving m A q Y L in-m)
+  serving_local X Y e = go (first_serving m A q X) (first_serving m A q Y) (reads_serving m A q X L in_m) (reads_serving m A q Y L in_m)
     where
       back : (t : ℕ) → t < m.states → Y t ≡ X t
       back t l = sym (e t l)

@@ -81,15 +81,15 @@ module _ (m : Structure) (L : Limits m) (st : Stack) (n : ℕ) (x : Standing) (l
 through : {Y P : Type 0} (b : Bool) → ExactlyWhen Y (b ≡ true) → Decides b P → ExactlyWhen Y P
 through b e d = (λ y. d.0 (e.0 y), λ p. e.1 (d.1 p))
 
-module _ (m : Structure) (L : Limits m) (A l : ℕ) (r s : Formula) (R S : ℕ → Bool) (k q : ℕ) (in-m : q < m.states) (Y N : Type 0) where
+module _ (m : Structure) (L : Limits m) (A l : ℕ) (r s : Formula) (R S : ℕ → Bool) (k q : ℕ) (in_m : q < m.states) (Y N : Type 0) where
   pub means : (f : Kind) → KnowsParts m f r s R S → Settled m f A l R S k → ExactlyWhen Y (yes m f A l R S k q ≡ true) → ExactlyWhen N (no m f A l R S k q ≡ true) → Means m f A l r s q Y N
-  means Label p d y n = let w = rule_right m L Label A l r s R S k p d q in-m in record { yes = through _ y w.yes_right; no = through _ n w.no_right }
-  means Not p d y n = let w = rule_right m L Not A l r s R S k p d q in-m in record { yes = through _ y w.yes_right; no = through _ n w.no_right }
-  means Or p d y n = let w = rule_right m L Or A l r s R S k p d q in-m in record { yes = through _ y w.yes_right; no = through _ n w.no_right }
-  means (Strategic Can o) p d y n = let w = can_right m L o A l r s R S k p d q in-m in record { yes = through _ y w.yes_right; no = through _ n w.no_right }
-  means (Strategic Despite Next) p d y n = let w = rule_right m L (Strategic Despite Next) A l r s R S k p d q in-m in record { yes = through _ y w.yes_right; no = through _ n w.no_right }
-  means (Strategic Despite Until) p d y n = let w = rule_right m L (Strategic Despite Until) A l r s R S k p d q in-m in record { yes = through _ y w.yes_right; no = through _ n w.no_right }
-  means (Strategic Despite Unless) p d y n = let w = rule_right m L (Strategic Despite Unless) A l r s R S k p d q in-m in record { yes = through _ y w.yes_right; no = through _ n w.no_right }
+  means Label p d y n = let w = rule_right m L Label A l r s R S k p d q in_m in record { yes = through _ y w.yes_right; no = through _ n w.no_right }
+  means Not p d y n = let w = rule_right m L Not A l r s R S k p d q in_m in record { yes = through _ y w.yes_right; no = through _ n w.no_right }
+  means Or p d y n = let w = rule_right m L Or A l r s R S k p d q in_m in record { yes = through _ y w.yes_right; no = through _ n w.no_right }
+  means (Strategic Can o) p d y n = let w = can_right m L o A l r s R S k p d q in_m in record { yes = through _ y w.yes_right; no = through _ n w.no_right }
+  means (Strategic Despite Next) p d y n = let w = rule_right m L (Strategic Despite Next) A l r s R S k p d q in_m in record { yes = through _ y w.yes_right; no = through _ n w.no_right }
+  means (Strategic Despite Until) p d y n = let w = rule_right m L (Strategic Despite Until) A l r s R S k p d q in_m in record { yes = through _ y w.yes_right; no = through _ n w.no_right }
+  means (Strategic Despite Unless) p d y n = let w = rule_right m L (Strategic Despite Unless) A l r s R S k p d q in_m in record { yes = through _ y w.yes_right; no = through _ n w.no_right }
 
 pub rule_means : (m : Structure) (L : Limits m) (st : Stack) (n : ℕ) (x : Standing) (low : Stack) → found st n ≡ Some (x, low) → Here m L st n x low → settled_of m x (yes_states m low) ≡ true
     → (q : ℕ) → q < m.states → Means m x.kind x.group x.r (formula low x.r) (formula low x.s) q (Asked m st n q verdict.Yes) (Asked m st n q verdict.No)

@@ -19,20 +19,20 @@ use Rattle.book.proofs.States.{count_is}
 use Rattle.book.proofs.Walks.{spot_later}
 use Rattle.book.proofs.Encoded.{FieldAt, field_here, fields_at, fields_end}
 
-getD_two : (x y : ℕ) (zs : List ℕ) (i : ℕ) → get_or (x ∷ y ∷ zs) (2 + i) 0 ≡ get_or zs i 0
-getD_two x y zs i = let e : 2 + i ≡ suc (suc i) = omega arith in ap (λ k. get_or (x ∷ y ∷ zs) k 0) e
+get_or_two : (x y : ℕ) (zs : List ℕ) (i : ℕ) → get_or (x ∷ y ∷ zs) (2 + i) 0 ≡ get_or zs i 0
+get_or_two x y zs i = let e : 2 + i ≡ suc (suc i) = omega arith in ap (λ k. get_or (x ∷ y ∷ zs) k 0) e
 
 -- a state's value
 module _ (q : State) where
   pub count_there : (i : ℕ) → i < length q.counts → get_or (state_value q) (2 + i) 0 ≡ get_or q.counts i 0
-  count_there i l = getD_two (q.labels / 256) (q.labels % 256) (q.counts ++ q.nexts) i ∙ get_or_append_left q.counts q.nexts 0 i l
+  count_there i l = get_or_two (q.labels / 256) (q.labels % 256) (q.counts ++ q.nexts) i ∙ get_or_append_left q.counts q.nexts 0 i l
 
   pub next_there : (P j : ℕ) → length q.counts ≡ P → next_in P (state_value q) j ≡ get_or q.nexts j 0
   next_there P j e =
       let s : 2 + P + j ≡ 2 + (P + j) = omega arith in
       let m : P + j - P ≡ j = omega arith in
       ap (λ k. get_or (state_value q) k 0) s
-      ∙ (getD_two (q.labels / 256) (q.labels % 256) (q.counts ++ q.nexts) (P + j)
+      ∙ (get_or_two (q.labels / 256) (q.labels % 256) (q.counts ++ q.nexts) (P + j)
       ∙ (get_or-append_right q.counts q.nexts P (P + j) 0 e (omega arith)
       ∙ ap (λ k. get_or q.nexts k 0) m))
 

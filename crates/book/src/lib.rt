@@ -11,7 +11,6 @@ mod rules;
 pub use book::{UnreadBook, read_rules};
 pub use fault::{Cause, Fault, Layer};
 pub use filed::FiledBook;
-use game::Game;
 pub use rules::{RuleField, Rules};
 
 #[cfg(test)]

@@ -8,7 +8,7 @@ use Rattle.atl.specs.declared.Modality.TheVariants.{Can}
 use Rattle.atl.specs.declared.Temporal.{Temporal}
 use Rattle.atl.specs.Rounds.{is_yes}
 use Rattle.atl.specs.Rules.{Formula, Satisfies, rule}
-use Rattle.atl.specs.Verdict.{Settled, verdict as verdict-of}
+use Rattle.atl.specs.Verdict.{Settled, verdict as verdict_of}
 use Rattle.atl.specs.Right.{KnowsParts}
 use Rattle.atl.specs.Binding.{PlainParts}
 use Rattle.atl.proofs.Right.{rule_decides, settled_last, enough, verdict_right}
@@ -53,8 +53,8 @@ module _ (m : Structure) (L : Limits m) (st : Stack) (n : ℕ) (o : Temporal) (A
       same e q l =
           let r = formula low i in
           let s = formula low j in
-          let R' = verdict-of m' r in
-          let S' = verdict-of m' s in
+          let R' = verdict_of m' r in
+          let S' = verdict_of m' s in
           let parts : KnowsParts m' (Strategic Can o) r s R' S' = knows_parts m' (Strategic Can o) r s R' S' (λ u. verdict_right m' L' r) (λ u. verdict_right m' L' s) in
           let end : Settled m' (Strategic Can o) 0 0 R' S' (suc m.states) = settled_last m' L' (Strategic Can o) 0 0 R' S' in
           let there : Decides (yes_states m' (stack h) n' q) (Satisfies m' (rule (Strategic Can o) 0 0 r s) q) = subst (λ (ψ : Formula). Decides (yes_states m' (stack h) n' q) (Satisfies m' ψ q)) φ (knows m' L' p'.rules (stack h) p'.right n' e q l) in

@@ -96,12 +96,12 @@ module _ (m : Structure) (L : Limits m) (A q : ℕ) where
   left_digits : Digits (left m A q)
   left_digits a = omega (arith, left_le a, moves_digit m L q a)
 
-  module _ (in-m : q < m.states) where
+  module _ (in_m : q < m.states) where
     places : Places (λ a. m.moves a q) (own m A q) (other m A q) (left m A q) (own_digits m A q L) 0 m.players
     places a i j = go (member a A)
       where
         moves : (1 ≤ m.moves a q) × (m.moves a q ≤ 15)
-        moves = L.a_move a q (i, omega arith) in-m
+        moves = L.a_move a q (i, omega arith) in_m
 
         go : (b : Bool) → Place (m.moves a q) (cond b (m.moves a q) 0) (cond b 0 (m.moves a q)) (cond b (min 1 (m.moves a q)) (m.moves a q))
         go true = record { one = moves.0; most = moves.1; side = inr (refl, refl, omega (arith, moves.0)) }
@@ -111,7 +111,7 @@ module _ (m : Structure) (L : Limits m) (A q : ℕ) where
     pub first_move : (a : ℕ) → Player m a → Member a A → move_of a (lowest m.players (highest (own m A q) 0 m.players)) ≡ 1
     first_move a p i =
         let d = box_players m firsts _ (box_firsts (own m A q) 0 m.players (own_digits m A q L)) a p in
-        omega (arith, d.low, d.high, cond-true (member a A) (m.moves a q) 0 (eq-eqb _ 1 i), (L.a_move a q p in-m).0)
+        omega (arith, d.low, d.high, cond-true (member a A) (m.moves a q) 0 (eq-eqb _ 1 i), (L.a_move a q p in_m).0)
 
     module _ (f : ℕ → ℕ) where
       abbrev whole : ℕ → ℕ
@@ -121,15 +121,15 @@ module _ (m : Structure) (L : Limits m) (A q : ℕ) where
       bound_box v h = vector_box (bound m A f) A q v h
 
       bound_vector : (v : ℕ) → Box (left m A q) 0 m.players v → Vector (bound m A f) q v
-      bound_vector v h = vector_from_box (bound m A f) q (λ a p. cond_both (member a A) (min 1 (m.moves a q)) (m.moves a q) (λ x. 1 ≤ x) (λ e. omega (arith, (L.a_move a q p in-m).0)) (λ e. (L.a_move a q p in-m).0)) v h
+      bound_vector v h = vector_from_box (bound m A f) q (λ a p. cond_both (member a A) (min 1 (m.moves a q)) (m.moves a q) (λ x. 1 ≤ x) (λ e. omega (arith, (L.a_move a q p in_m).0)) (λ e. (L.a_move a q p in_m).0)) v h
 
       bound_next : (v : ℕ) → Vector (bound m A f) q v → (bound m A f).next q v ≡ m.next q (whole v)
-      bound_next v h = cond-true _ (m.next q (whole v)) None (and_from _ _ (lt-ltb q m.states in-m) (box_under (left m A q) left_digits 0 m.players v (bound_box v h)))
+      bound_next v h = cond-true _ (m.next q (whole v)) None (and_from _ _ (lt-ltb q m.states in_m) (box_under (left m A q) left_digits 0 m.players v (bound_box v h)))
 
       bound_leads : (v : ℕ) → Vector (bound m A f) q v → (t : ℕ) × ((bound m A f).next q v ≡ Some t) × (t < m.states)
       bound_leads v h =
           let b = placed_box (λ a. m.moves a q) (own m A q) (other m A q) (left m A q) (own_digits m A q L) 0 m.players (f q) v places (bound_box v h) in
-          let t = L.leads q (whole v) in-m (box_vector m A q L in-m (whole v) b) in
+          let t = L.leads q (whole v) in_m (box_vector m A q L in_m (whole v) b) in
           (t.0, bound_next v h ∙ t.1, t.2)
 
       -- where the entry is a choice of the group, the vectors of the bound game are the replies to it
@@ -141,7 +141,7 @@ module _ (m : Structure) (L : Limits m) (A q : ℕ) where
         bound_there v h =
             let k = picked (left m A q) firsts (other m A q) left_digits left_parts 0 m.players v (bound_box v h) in
             let y = pick (other m A q) 0 m.players v in
-            let j = box_reply m A q L in-m y k.1 in
+            let j = box_reply m A q L in_m y k.1 in
             (y, j, bound_next v h ∙ ap (m.next q) (ap whole k.2 ∙ joined _ y k.0 j))
 
         pub bound_back : (y : ℕ) → Reply m A q y → (v : ℕ) × Vector (bound m A f) q v × ((bound m A f).next q v ≡ m.next q (f q + y))
@@ -182,13 +182,13 @@ pub nobody_chooses : (m : Structure) (q c : ℕ) → Choice m 0 q c → c ≡ 0
 nobody_chooses m q c h = box_none (own m 0 q) (λ a. cond-false (member a 0) (m.moves a q) 0 (ne_eqb _ 1 (nobody a))) 0 m.players c (choice_box m 0 q c h)
 
 -- Where the entry is a choice of the group, the steps of the bound game, in which nobody chooses, are the steps under the entry.
-module _ (m : Structure) (L : Limits m) (A : ℕ) (f : ℕ → ℕ) (q : ℕ) (in-m : q < m.states) (entry : Choice m A q (f q)) (c : ℕ) (none : Choice (bound m A f) 0 q c) where
+module _ (m : Structure) (L : Limits m) (A : ℕ) (f : ℕ → ℕ) (q : ℕ) (in_m : q < m.states) (entry : Choice m A q (f q)) (c : ℕ) (none : Choice (bound m A f) 0 q c) where
   pub step_there : (x : ℕ) → Reply (bound m A f) 0 q x → (y : ℕ) × Reply m A q y × ((bound m A f).next q (c + x) ≡ m.next q (f q + y))
-  step_there x h = bound_there m L A q in-m f entry (c + x) ((divided (bound m A f) 0 q (bound_limits m A f L) in-m).joins c x none h)
+  step_there x h = bound_there m L A q in_m f entry (c + x) ((divided (bound m A f) 0 q (bound_limits m A f L) in_m).joins c x none h)
 
   pub step_back : (y : ℕ) → Reply m A q y → (x : ℕ) × Reply (bound m A f) 0 q x × ((bound m A f).next q (c + x) ≡ m.next q (f q + y))
   step_back y h =
-      let v = bound_back m L A q in-m f entry y h in
-      let s = (divided (bound m A f) 0 q (bound_limits m A f L) in-m).splits v.0 v.1 in
+      let v = bound_back m L A q in_m f entry y h in
+      let s = (divided (bound m A f) 0 q (bound_limits m A f L) in_m).splits v.0 v.1 in
       let e : c + s.1 ≡ v.0 = omega (arith, s.4, nobody_chooses (bound m A f) q c none, nobody_chooses (bound m A f) q s.0 s.2) in
       (s.1, s.3, ap ((bound m A f).next q) e ∙ v.2)

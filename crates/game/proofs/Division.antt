@@ -91,10 +91,10 @@ module _ (m : Structure) (A q : ℕ) where
     pub other_digits : Digits (other m A q)
     other_digits a = cond_both (member a A) 0 (m.moves a q) (λ x. x ≤ 15) (λ e. omega arith) (λ e. moves_digit m L q a)
 
-    module _ (in-m : q < m.states) where
+    module _ (in_m : q < m.states) where
       pub box_choice : (c : ℕ) → Box (own m A q) 0 m.players c → Choice m A q c
       box_choice c h = record {
-        members = λ b p i. digit_plays (m.moves b q) (move_of b c) (L.a_move b q p in-m).0 (subst (λ x. Digit x (move_of b c)) (own_in b i) (box_players m (own m A q) c h b p));
+        members = λ b p i. digit_plays (m.moves b q) (move_of b c) (L.a_move b q p in_m).0 (subst (λ x. Digit x (move_of b c)) (own_in b i) (box_players m (own m A q) c h b p));
         others = λ b p i. digit_none (move_of b c) (subst (λ x. Digit x (move_of b c)) (own_out b i) (box_players m (own m A q) c h b p));
         rest = box_below (own m A q) 0 m.players c h;
       }
@@ -102,12 +102,12 @@ module _ (m : Structure) (A q : ℕ) where
       pub box_reply : (r : ℕ) → Box (other m A q) 0 m.players r → Reply m A q r
       box_reply r h = record {
         members = λ b p i. digit_none (move_of b r) (subst (λ x. Digit x (move_of b r)) (other_in b i) (box_players m (other m A q) r h b p));
-        others = λ b p i. digit_plays (m.moves b q) (move_of b r) (L.a_move b q p in-m).0 (subst (λ x. Digit x (move_of b r)) (other_out b i) (box_players m (other m A q) r h b p));
+        others = λ b p i. digit_plays (m.moves b q) (move_of b r) (L.a_move b q p in_m).0 (subst (λ x. Digit x (move_of b r)) (other_out b i) (box_players m (other m A q) r h b p));
         rest = box_below (other m A q) 0 m.players r h;
       }
 
       pub box_vector : (v : ℕ) → Box (λ a. m.moves a q) 0 m.players v → Vector m q v
-      box_vector v h = vector_from_box m q (λ b p. (L.a_move b q p in-m).0) v h
+      box_vector v h = vector_from_box m q (λ b p. (L.a_move b q p in_m).0) v h
 
       joins : (c r : ℕ) → Choice m A q c → Reply m A q r → Vector m q (c + r)
       joins c r h k = box_vector (c + r) (box_joins (λ a. m.moves a q) (own m A q) (other m A q) (moves_digit m L q) parts 0 m.players c r (choice_box c h) (reply_box r k))
@@ -134,7 +134,7 @@ module _ (m : Structure) (A q : ℕ) where
         some_reply = (lowest m.players (highest (other m A q) 0 m.players), box_reply _ (box_lowest (other m A q) 0 m.players other_digits));
         joins = joins;
         joins_bits = λ c r h k. box_or (λ a. m.moves a q) (own m A q) (other m A q) (moves_digit m L q) parts 0 m.players c r (choice_box c h) (reply_box r k);
-        leads = λ c r h k. L.leads q (c + r) in-m (joins c r h k);
+        leads = λ c r h k. L.leads q (c + r) in_m (joins c r h k);
         splits = splits;
         once = once;
       }

@@ -68,19 +68,19 @@ find_reads f (y ∷ ys) h = go (f y) refl (find f ys) (find_reads f ys (ascendin
     go false e None k = each_cons f false y ys e k
     go false e (Some c) k = (inr k.0, k.1, λ x i l. ⊎_elim (λ z. ap f z ∙ e) (λ z. k.2 x z l) i)
 
-module _ (m : Structure) (A q : ℕ) (I : ℕ → Bool) (L : Limits m) (in-m : q < m.states) where
+module _ (m : Structure) (A q : ℕ) (I : ℕ → Bool) (L : Limits m) (in_m : q < m.states) where
   leads_reads : (c r : ℕ) (b : Bool) → Choice m A q c → Reply m A q r → leads m q I c r ≡ b → Leads m q I c b r
   unfolding leads
   leads_reads c r b h k e =
-      let l = (divided m A q L in-m).leads c r h k in
+      let l = (divided m A q L in_m).leads c r h k in
       (l.0, l.1, sym (ap (within I) l.1) ∙ e)
 
   -- from the list of replies to the replies
   each_reply : (c : ℕ) (b : Bool) → Choice m A q c → EachIs (leads m q I c) b (replies m A q) → EveryReply m A q I b c
-  each_reply c b h k r i = leads_reads c r b h i (k r ((divided m A q L in-m).reply_in r i))
+  each_reply c b h k r i = leads_reads c r b h i (k r ((divided m A q L in_m).reply_in r i))
 
   some_reply : (c : ℕ) (b : Bool) → Choice m A q c → SomeIs (leads m q I c) b (replies m A q) → SomeReply m A q I b c
-  some_reply c b h k = let i = (divided m A q L in-m).in_reply k.0 k.1 in (k.0, i, leads_reads c k.0 b h i k.2)
+  some_reply c b h k = let i = (divided m A q L in_m).in_reply k.0 k.1 in (k.0, i, leads_reads c k.0 b h i k.2)
 
   serves_true : (c : ℕ) → Choice m A q c → serves m A q I c ≡ true → EveryReply m A q I true c
   unfolding serves
@@ -99,19 +99,19 @@ module _ (m : Structure) (A q : ℕ) (I : ℕ → Bool) (L : Limits m) (in-m : q
   answers_false c h e = each_reply c false h (subst (Any (leads m q I c) (replies m A q)) e (some_reads (leads m q I c) (replies m A q)))
 
   found_serving : (o : Option ℕ) → Found (serves m A q I) (choices m A q) o → Serving m A q I o
-  found_serving None h = λ c i. serves_false c i (h c ((divided m A q L in-m).choice_in c i))
+  found_serving None h = λ c i. serves_false c i (h c ((divided m A q L in_m).choice_in c i))
   found_serving (Some c) h =
-      let i = (divided m A q L in-m).in_choice c h.0 in
-      (i, serves_true c i h.1, λ d j l. serves_false d j (h.2 d ((divided m A q L in-m).choice_in d j) l))
+      let i = (divided m A q L in_m).in_choice c h.0 in
+      (i, serves_true c i h.1, λ d j l. serves_false d j (h.2 d ((divided m A q L in_m).choice_in d j) l))
 
   every_answering : (b : Bool) → Every (answers m A q I) (choices m A q) b → Answering m A q I b
-  every_answering true h = λ c i. answers_true c i (h c ((divided m A q L in-m).choice_in c i))
-  every_answering false h = let i = (divided m A q L in-m).in_choice h.0 h.1 in (h.0, i, answers_false h.0 i h.2)
+  every_answering true h = λ c i. answers_true c i (h c ((divided m A q L in_m).choice_in c i))
+  every_answering false h = let i = (divided m A q L in_m).in_choice h.0 h.1 in (h.0, i, answers_false h.0 i h.2)
 
   -- what the two searches answer
   pub reads_serving : Serving m A q I (first_serving m A q I)
   unfolding first_serving
-  reads_serving = found_serving (first_serving m A q I) (find_reads (serves m A q I) (choices m A q) (divided m A q L in-m).choices_ascend)
+  reads_serving = found_serving (first_serving m A q I) (find_reads (serves m A q I) (choices m A q) (divided m A q L in_m).choices_ascend)
 
   pub reads_answering : Answering m A q I (all_answered m A q I)
   unfolding all_answered

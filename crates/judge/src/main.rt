@@ -3,9 +3,9 @@
 
 ghost use Rattle.judge.specs.Orders.{Asks};
 
-use anyhow::anyhow;
 use report::{Report, list_book, list_drill, playbook_of_book};
 use std::io::{Read, Write};
+use std::process::ExitCode;
 use std::{env, io};
 
 // One byte more than a book may have is enough to refuse it.
@@ -57,7 +57,7 @@ fn order_of(rt: &HostRuntime) -> io::Result<Order> {
     }
 }
 
-fn main(rt: HostRuntime) -> anyhow::Result<()> {
+fn main(rt: HostRuntime) -> anyhow::Result<ExitCode> {
     let heap = rt.alloc();
     let report = match order_of(&rt)? {
         Order::List => list_book(heap, input(&rt)?.as_slice())?,
@@ -65,15 +65,16 @@ fn main(rt: HostRuntime) -> anyhow::Result<()> {
         Order::Playbook(rule) => playbook_of_book(heap, input(&rt)?.as_slice(), rule)?,
         Order::Unknown => {
             rt.eprint(USAGE)?;
-            return Err(anyhow!("usage"));
+            return Ok(ExitCode::FAILURE);
         }
     };
     match report {
-        Report::Listing(text) => Ok(rt.print(text.as_str())?),
-        Report::Playbook(bytes) => Ok(rt.stdout().write_all(bytes.as_slice())?),
+        Report::Listing(text) => rt.print(text.as_str())?,
+        Report::Playbook(bytes) => rt.stdout().write_all(bytes.as_slice())?,
         Report::Declined(line) => {
             rt.print(line.as_str())?;
-            Err(anyhow!("declined"))
+            return Ok(ExitCode::FAILURE);
         }
     }
+    Ok(ExitCode::SUCCESS)
 }

@@ -9,16 +9,16 @@ use Rattle.game.specs.Serving.{leads, serves, answers, first_serving, all_answer
 use Rattle.drill.specs.Meaning.{drill}
 use Rattle.book.specs.Content.{Holds}
 use Rattle.book.specs.Described.{described}
-use Rattle.calls.specs.Histories.{answers as answers-to}
+use Rattle.calls.specs.Histories.{answers as answers_to}
 use Rattle.judged.specs.Drilled.{drill_book, drill_calls, drill_answers, FollowsBook, bound_drill, bound_calls, bound_answers}
 use Rattle.judged.specs.Meeting.{meeting_bytes, meeting, meeting_calls, meeting_answers}
 use Rattle.judged.specs.Judged.{JudgedExamples}
 
-pub drilled : answers-to (drill 1) [] 0 drill_calls ≡ drill_answers
+pub drilled : answers_to (drill 1) [] 0 drill_calls ≡ drill_answers
 unfolding drill_calls drill_answers above least spread numbers highest lowest under leads serves answers first_serving all_answered
 drilled = refl
 
-pub met : answers-to (described meeting) [] 0 meeting_calls ≡ meeting_answers
+pub met : answers_to (described meeting) [] 0 meeting_calls ≡ meeting_answers
 unfolding meeting_calls meeting_answers above least spread numbers highest lowest under leads serves answers first_serving all_answered
 met = refl
 
@@ -38,14 +38,14 @@ bound_same m A f g e =
 entries : ℕ → ℕ
 entries q = get_or drill_book q 0
 
-bound_entries : answers-to (bound_drill entries) [] 0 bound_calls ≡ bound_answers
+bound_entries : answers_to (bound_drill entries) [] 0 bound_calls ≡ bound_answers
 unfolding bound_calls bound_answers entries placed above least spread numbers highest lowest under leads serves answers first_serving all_answered
 bound_entries = refl
 
-pub bound_to_book : (f : ℕ → ℕ) → FollowsBook f → answers-to (bound_drill f) [] 0 bound_calls ≡ bound_answers
+pub bound_to_book : (f : ℕ → ℕ) → FollowsBook f → answers_to (bound_drill f) [] 0 bound_calls ≡ bound_answers
 unfolding entries
 bound_to_book f h =
-    ap (λ m. answers-to m [] 0 bound_calls) (bound_same (drill 1) 3 f entries h) ∙ bound_entries
+    ap (λ m. answers_to m [] 0 bound_calls) (bound_same (drill 1) 3 f entries h) ∙ bound_entries
 
 pub held : Holds meeting_bytes meeting
 held = record {

@@ -3,7 +3,7 @@
 
 ghost use Rattle.std.specs.Prelude.{◌≡◌, cond, List, ◌++◌, length, is_ok, IfOk, string_bytes, codes};
 ghost use Rattle.refusal.specs.Numbers.{number_of};
-ghost use Rattle.book.specs.Faults.{number_of as cause-number, word_of};
+ghost use Rattle.book.specs.Faults.{number_of as cause_number, word_of};
 ghost use Rattle.listing.specs.Text.{letter as letter_of, number_text, mark_text, marks_text, rule_text, game_text, refused_text, no_game_text, fault_text, listing_text};
 
 use atl::{Shown, Verdict};
@@ -84,7 +84,7 @@ pub fn no_game_line(heap: Global, refusal: Refusal) -> Result<String, AllocError
 
 // The line of a faulty book.
 pub fn fault_line(heap: Global, fault: Fault) -> Result<String, AllocError>
-    ensures { IfOk result (λ s. string_bytes s ≡ fault_text (cause-number fault.cause) fault.byte (word_of fault.layer)) }
+    ensures { IfOk result (λ s. string_bytes s ≡ fault_text (cause_number fault.cause) fault.byte (word_of fault.layer)) }
 {
     let cause = fault.cause.number();
     let byte = fault.byte;

@@ -151,11 +151,11 @@ module _ (m : Structure) (size : ℕ) (x : RuleField) (n : ℕ) (h : History) wh
         (cases_eq i (length (stack h)))
 
 -- What the calls of a rule, performed on the board, make of it.
-module _ (m : Structure) (L : Limits m) (x : RuleField) (n : ℕ) (t t' : Table) (calls : List Call) (b b' : List ℕ) (all : List Answer) (is-script : calls ≡ script m.states n x) (p : Performs m calls t t' b b' all) where
+module _ (m : Structure) (L : Limits m) (x : RuleField) (n : ℕ) (t t' : Table) (calls : List Call) (b b' : List ℕ) (all : List Answer) (is_script : calls ≡ script m.states n x) (p : Performs m calls t t' b b' all) where
   performed_on : (st : Stack) → Reached m st t → (h : History) × (stack h ≡ st) × Answered m h × Performed m h (script m.states n x) b t' b' all
   performed_on st R =
       let l = R.led in
-      (l.calls, l.is, l.answered, subst (λ (cs : List Call). Performed m l.calls cs b t' b' all) is-script (p l.calls l.answered (subst (λ (s : Stack). Shows m s t) (sym l.is) R.shows)))
+      (l.calls, l.is, l.answered, subst (λ (cs : List Call). Performed m l.calls cs b t' b' all) is_script (p l.calls l.answered (subst (λ (s : Stack). Shows m s t) (sym l.is) R.shows)))
 
   pub rule_refused : (e : Refusal) → first_refused all ≡ Some e → JudgesRule m x n t t' (Err e)
   rule_refused e i st R height =

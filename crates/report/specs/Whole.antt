@@ -6,7 +6,7 @@ use Rattle.refusal.specs.declared.Refusal.TheVariants.{NoLimit}
 use Rattle.drill.specs.Meaning.{drill, Limit}
 use Rattle.book.specs.declared.fault.Fault.{Fault}
 use Rattle.book.specs.declared.rules.RuleField.{RuleField}
-use Rattle.book.specs.Faults.{number_of as cause-number, word_of}
+use Rattle.book.specs.Faults.{number_of as cause_number, word_of}
 use Rattle.book.specs.Tests.{Tests, Fails}
 use Rattle.book.specs.Layout.{book_tests, list_tests}
 use Rattle.book.specs.Content.{Content, Holds, HoldsRules}
@@ -38,7 +38,7 @@ playbook_of n m j = played m n j
 
 -- the line of a fault
 abbrev pub faulty : Fault → Printed
-faulty f = declined (fault_text (cause-number f.cause) f.byte (word_of f.layer))
+faulty f = declined (fault_text (cause_number f.cause) f.byte (word_of f.layer))
 
 -- The bytes hold what C says, or have a first fault by the tests ts: never neither.
 abbrev pub SoundOrFaulty : {C : Type 0} → (C → Type 0) → Tests → Type 0

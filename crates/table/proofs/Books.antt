@@ -12,7 +12,7 @@ use Rattle.atl.specs.declared.Temporal.{Temporal}
 use Rattle.atl.specs.declared.Temporal.TheVariants.{Next, Until, Unless}
 use Rattle.atl.specs.declared.Mark.{Mark}
 use Rattle.atl.specs.declared.Mark.TheVariants.{Yes}
-use Rattle.atl.specs.Playbook.{all_first, or_else, keep_to, yes_states as marked-yes, yes_states_below, play_at, playbook}
+use Rattle.atl.specs.Playbook.{all_first, or_else, keep_to, yes_states as marked_yes, yes_states_below, play_at, playbook}
 use Rattle.atl.proofs.Steps.{serving_local}
 use Rattle.atl.proofs.Plays.{playbook_local}
 use Rattle.table.specs.declared.types.Rule.{Rule}
@@ -105,8 +105,8 @@ module _ (m : Structure) (L : Limits m) (y : Rule) (ys zs : List Bool) (q : ℕ)
 
   pub unless_choice : (o : Temporal) (k c : ℕ) (xs : List Bool) → marks_in y q ≡ Yes k → o ≡ Unless → set_of zs q ≡ false → YesMarks y xs → c ≡ keep_to m y.group q (set_of xs) → c ≡ choice_of m y ys zs o q
   unless_choice o k c xs e i b x h =
-      h ∙ keep_same (set_of xs) (marked-yes (marks_in y)) (λ t d. x t (omega (arith, L.many)))
-      ∙ sym (cond-false (set_of zs q) (all_first m y.group q) (keep_to m y.group q (marked-yes (marks_in y))) b)
+      h ∙ keep_same (set_of xs) (marked_yes (marks_in y)) (λ t d. x t (omega (arith, L.many)))
+      ∙ sym (cond-false (set_of zs q) (all_first m y.group q) (keep_to m y.group q (marked_yes (marks_in y))) b)
       ∙ sym (ap₂ (λ (w : Temporal) (v : Mark). play_at m y.group (marks_in y) (set_of ys) (set_of zs) w q v) i e)
 
 -- the answers of play

@@ -153,10 +153,10 @@ module _ (m : Structure) (t : Table) (st : Stack) (p : Shows m st t) where
   rule_rounds n f = ap rounds_in f.right.condition ∙ rounds_of f.rule.rounds _
 
   -- a call on rule n: what the table gives, case by case
-  by_number : {X : Type 0} (n : ℕ) (here gone-here : X) (answer : Option (Standing × Stack) → X) → ((f : At n) → here ≡ answer (Some (f.rule, f.below))) → gone-here ≡ answer None → cond (ltb n t.count) here gone-here ≡ answer (found st n)
-  by_number n here gone-here answer h g = ⊎_elim
-      (λ (e : ltb n t.count ≡ true). let f = at n e in cond-true _ here gone-here e ∙ h f ∙ ap answer (sym f.is))
-      (λ (e : ltb n t.count ≡ false). cond-false _ here gone-here e ∙ g ∙ ap answer (sym (gone n e)))
+  by_number : {X : Type 0} (n : ℕ) (here gone_here : X) (answer : Option (Standing × Stack) → X) → ((f : At n) → here ≡ answer (Some (f.rule, f.below))) → gone_here ≡ answer None → cond (ltb n t.count) here gone_here ≡ answer (found st n)
+  by_number n here gone_here answer h g = ⊎_elim
+      (λ (e : ltb n t.count ≡ true). let f = at n e in cond-true _ here gone_here e ∙ h f ∙ ap answer (sym f.is))
+      (λ (e : ltb n t.count ≡ false). cond-false _ here gone_here e ∙ g ∙ ap answer (sym (gone n e)))
       (cases_Bool (ltb n t.count))
 
   pub asks : (n q : ℕ) → ask_table m.states t n q ≡ ask_answer m n q st
@@ -305,14 +305,14 @@ does_round m L t t' n c parts h s = record {
 pub stepped : (m : Structure) (t t' : Table) (n c r s : ℕ) (y' : Rule) (ys zs : List Bool) → n < length t.rules → t'.count ≡ t.count → t'.rules ≡ set t.rules n y'
     → r ≡ (rule_at t.rules n).r → s ≡ (rule_at t.rules n).s → YesArray t r ys → YesArray t s zs
     → (length (rule_at t.rules n).marks ≡ 256 → rounds_in (rule_at t.rules n).condition < 65535 → Worked m (rule_at t.rules n) ys zs y' c) → Stepped m t t' n c
-stepped m t t' n c r s y' ys zs l ec er e-r e-s a b w =
+stepped m t t' n c r s y' ys zs l ec er e_r e_s a b w =
     let e : rule_at t'.rules n ≡ y' = ap (λ (z : List Rule). rule_at z n) er ∙ same_rule t.rules n y' l in
     record {
       count = ec;
       rules = er ∙ ap (set t.rules n) (sym e);
       yes_r = ys;
       yes_s = zs;
-      is_r = subst (λ i. YesArray t i ys) e-r a;
-      is_s = subst (λ i. YesArray t i zs) e-s b;
+      is_r = subst (λ i. YesArray t i ys) e_r a;
+      is_s = subst (λ i. YesArray t i zs) e_s b;
       worked = λ h k. subst (λ (y : Rule). Worked m (rule_at t.rules n) ys zs y c) (sym e) (w h k);
     }
