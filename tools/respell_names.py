@@ -18,7 +18,7 @@ import sys
 WORD = r"[^\s(){}\[\],;.«»@\"\\|]+"
 TOKEN = re.compile(r"«[^»]*»|\"(?:[^\"\\]|\\.)*\"|" + WORD)
 # Two variables of one clause, and a lemma named after a word of the older library.
-OTHERS = {"e-r": "e_r", "e-s": "e_s", "getD_two": "get_or_two"}
+OTHERS = {"e-r": "e_r", "e-s": "e_s", "getD-two": "get_or_two", "getD_two": "get_or_two"}
 
 # Where the code has a function of the plain name, a definition comes in under another one.
 BESIDE_A_FUNCTION = {
@@ -84,7 +84,7 @@ def renamings():
     proofs = [open(p, encoding="utf-8").read() for p in paths(".antt")]
     sources = [open(p, encoding="utf-8").read() for p in paths(".rt")]
     made = made_names(proofs)
-    new = dict(OTHERS)
+    new = {}
     for name in declared_names(proofs):
         if re.search(r"\w-\w", name) and name not in made:
             new[name] = spelled(name)
@@ -95,6 +95,7 @@ def renamings():
                     new[name] = BESIDE_A_FUNCTION.get(name, snake(name))
                 for name in re.findall(r"\bas «?(\w+-[\w-]+)", line):
                     new[name] = spelled(name)
+    new.update(OTHERS)
     return new, made
 
 
