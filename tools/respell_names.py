@@ -3,10 +3,10 @@
 
 usage: python3 tools/respell_names.py [--list]        at the top of the repository
 
-A name that specs/ or proofs/ declare, import under it or bind, and that has a dash, is written in upper camel case if it begins with a capital (a type or a
-fact), and in snake case otherwise: In-range -> InRange, move-of -> move_of. A name that a `ghost use` gives in mixed case is written
-in snake case: highestOf -> highest_of. Names that the language makes of the code (goals, and the steps and fields of a goal's
-context) are left, as are comments, strings, functions of src/ and must-fail edits. A second run changes nothing.
+A name with a dash that specs/ or proofs/ declare, bind or give an import is written in upper camel case if it begins with a capital
+(a type or a fact), and in snake case otherwise: In-range -> InRange, move-of -> move_of. A name that a `ghost use` gives in mixed
+case is written in snake case: highestOf -> highest_of. Names that the language makes of the code (goals, and the steps and fields
+of a goal's context) are left, as are comments, strings, functions of src/ and must-fail edits. A second run changes nothing.
 With --list nothing is written: each name is printed with its new spelling.
 """
 
@@ -96,11 +96,11 @@ def renamings():
                 for name in re.findall(r"\bas «?(\w+-[\w-]+)", line):
                     new[name] = spelled(name)
     new.update(OTHERS)
-    return new, made
+    return new
 
 
 def main():
-    new, made = renamings()
+    new = renamings()
     words = collections.Counter()
     for p in paths(".antt") + paths(".rt"):
         mark = "--" if p.endswith(".antt") else "//"
