@@ -1,10 +1,10 @@
 -- What the tests of a vector and of a choice decide.
-use Rattle.std.proofs.Common.{◌≡◌, ℕ, ◌-◌, ◌%◌, ◌^◌, ◌<◌, ◌≤◌, Bool, ◌&&◌, ltb, Decides, ap, ◌∙◌, ⊎_elim, arith, lit≤}
-use native.Mathlib.Nat.{zero-div}
+use Rattle.std.proofs.Common.{◌≡◌, ℕ, ◌-◌, ◌/◌, ◌%◌, ◌^◌, ◌<◌, ◌≤◌, Bool, ◌&&◌, ltb, leb, Decides, ap, ◌∙◌, ⊎_elim, arith, lit≤}
+use native.Mathlib.Nat.{zero-div, div-eq_of_lt, pow-le-pow_right}
 use Rattle.std.proofs.lemmas.Bool.{cases_lt}
-use Rattle.std.proofs.lemmas.Bool.Decides.{Decides-at, Decides-like, Decides-and, Decides-ltb}
+use Rattle.std.proofs.lemmas.Bool.Decides.{Decides-at, Decides-like, Decides-and, Decides-ltb, nat_tests}
 use Rattle.game.specs.Structure.{Structure, Limits, Vector, Choice, Reply, Member}
-use Rattle.game.specs.Lists.{own, other, highest, under}
+use Rattle.game.specs.Lists.{member, own, other, highest, under}
 use Rattle.game.proofs.Walk.{Digits}
 use Rattle.game.proofs.Members.{Box}
 use Rattle.game.proofs.Under.{decides_under}
@@ -46,3 +46,9 @@ module _ (m : Structure) (L : Limits m) (q : ℕ) where
       decides_there (own m A q) (own_digits m A q L) h v b ((q < m.states) × Choice m A q v) f s
       (λ l k. (l, box_choice m A q L l v k))
       (λ k. (k.0, choice_box m A q v k.1))
+
+-- a group has eight bits
+pub no_ninth : (A a : ℕ) → A < 2 ^ 8 → 8 < a → leb a 8 ≡ member a A
+no_ninth A a l h =
+    let e : A / 2 ^ (a - 1) ≡ 0 = div-eq_of_lt (omega (arith, pow-le-pow_right {n = 2} (lit≤ tt) {i = 8} {j = a - 1} (omega arith))) in
+    rw e (grind (arith, nat_tests))

@@ -1,5 +1,5 @@
 // The five questions that every game answers.
-ghost use Rattle.std.specs.Prelude.{◌≡◌};
+ghost use Rattle.std.specs.Prelude.{◌≡◌, nat_lt};
 ghost use Rattle.game.specs.Structure.{Structure, Limits};
 
 pub trait Game {
@@ -28,4 +28,12 @@ pub trait Game {
     // Where the vector leads; None for a state or a vector that the game lacks.
     fn next(&self, state: u8, vector: u32) -> Option<u8>
         ensures { result ≡ (meaning self.now).next state vector };
+
+    // Whether the game has the state.
+    final fn has_state(&self, state: u8) -> bool
+        ensures { result ≡ nat_lt state (meaning self.now).states }
+    {
+        let (states, _) = self.states();
+        (state as u16) < states
+    }
 }

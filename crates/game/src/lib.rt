@@ -5,4 +5,4 @@ mod interface;
 mod sides;
 
 pub use interface::Game;
-pub use sides::{Sides, is_choice, is_under, is_vector};
+pub use sides::{Sides, is_choice, is_member, is_under, is_vector};

@@ -14,16 +14,11 @@ pub struct Sides {
     pub reply: u32,
 }
 
-// The player's moves if it is in the group, else 0.
-fn own_moves(group: u8, player: u8, moves: u8) -> u8
-    requires { (0 < player) × (player ≤ 6) }
-    ensures { result ≡ (if member player group then moves else 0) }
+// Whether the player is in the group.
+pub fn is_member(group: u8, player: u8) -> bool
+    ensures { result ≡ member player group }
 {
-    if (group >> (player - 1)) % 2 == 1 {
-        moves
-    } else {
-        0
-    }
+    player <= 8 && (group >> player.saturating_sub(1)) % 2 == 1
 }
 
 impl Sides {
@@ -37,11 +32,15 @@ impl Sides {
         let players = game.players();
         let mut choice: u32 = 0;
         let mut reply: u32 = 0;
-        for player in (1..players + 1).rev() {
-            let moves = game.moves(player, state);
-            let mine = own_moves(group, player, moves);
-            choice = choice * 16 + mine as u32;
-            reply = reply * 16 + (moves - mine) as u32;
+        for player in (1..=players).rev() {
+            let moves = game.moves(player, state) as u32;
+            choice *= 16;
+            reply *= 16;
+            if is_member(group, player) {
+                choice += moves;
+            } else {
+                reply += moves;
+            }
         }
         Sides {
             players,
@@ -78,8 +77,7 @@ pub fn is_under(players: u8, most: u32, number: u32) -> bool
 fn admits<G: Game>(game: &G, state: u8, most: u32, number: u32) -> bool
     ensures { result ≡ (nat_lt state (G.Game.meaning game.now).states && under (G.Game.meaning game.now).players most number) }
 {
-    let (states, _) = game.states();
-    (state as u16) < states && is_under(game.players(), most, number)
+    game.has_state(state) && is_under(game.players(), most, number)
 }
 
 // Whether the number is a vector of the state: nobody's replies are the vectors.
