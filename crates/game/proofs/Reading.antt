@@ -3,7 +3,8 @@ use Rattle.std.proofs.Common.{◌≡◌, ℕ, ◌<◌, Bool, true, false, cond, 
 use Rattle.game.specs.Structure.{Structure, Limits, Choice, Reply}
 use Rattle.game.specs.Lists.{choices, replies, Elem, Climbs, Ascending}
 use Rattle.game.proofs.Division.{divided}
-use Rattle.game.specs.Serving.{every, some, find, within, leads, serves, answers, first_serving, all_answered}
+use Rattle.std.specs.List.{list_all, list_any, find}
+use Rattle.game.specs.Serving.{within, leads, serves, answers, first_serving, all_answered}
 use Rattle.game.specs.Reading.{Leads, EveryReply, SomeReply, Serving, Answering}
 
 -- each element has the answer b, or some element has
@@ -17,28 +18,28 @@ each_cons : (f : ℕ → Bool) (b : Bool) (y : ℕ) (ys : List ℕ) → f y ≡ 
 each_cons f b y ys e h x (inl i) = ap f i ∙ e
 each_cons f b y ys e h x (inr i) = h x i
 
--- `every`
+-- `list_all`
 abbrev Every : (ℕ → Bool) → List ℕ → Bool → Type 0
 Every f xs true = EachIs f true xs
 Every f xs false = SomeIs f false xs
 
-every_reads : (f : ℕ → Bool) (xs : List ℕ) → Every f xs (every f xs)
+every_reads : (f : ℕ → Bool) (xs : List ℕ) → Every f xs (list_all f xs)
 every_reads f [] = λ x e. absurd e
-every_reads f (y ∷ ys) = go (f y) refl (every f ys) (every_reads f ys)
+every_reads f (y ∷ ys) = go (f y) refl (list_all f ys) (every_reads f ys)
   where
     go : (b : Bool) → f y ≡ b → (c : Bool) → Every f ys c → Every f (y ∷ ys) (b && c)
     go true e true h = each_cons f true y ys e h
     go true e false h = (h.0, inr h.1, h.2)
     go false e c h = (y, inl refl, e)
 
--- `some`
+-- `list_any`
 abbrev Any : (ℕ → Bool) → List ℕ → Bool → Type 0
 Any f xs true = SomeIs f true xs
 Any f xs false = EachIs f false xs
 
-some_reads : (f : ℕ → Bool) (xs : List ℕ) → Any f xs (some f xs)
+some_reads : (f : ℕ → Bool) (xs : List ℕ) → Any f xs (list_any f xs)
 some_reads f [] = λ x e. absurd e
-some_reads f (y ∷ ys) = go (f y) refl (some f ys) (some_reads f ys)
+some_reads f (y ∷ ys) = go (f y) refl (list_any f ys) (some_reads f ys)
   where
     go : (b : Bool) → f y ≡ b → (c : Bool) → Any f ys c → Any f (y ∷ ys) (b || c)
     go true e c h = (y, inl refl, e)

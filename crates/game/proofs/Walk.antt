@@ -30,52 +30,54 @@ unfolding above
 above_first v n k e = rw e refl
 
 -- what comes after the least with a digit more
-rest_least : (d : ℕ → ℕ) (a n w : ℕ) → Digits d → rest d a (suc n) (least (d (suc a)) w) ≡ above (least (d (suc a)) w) (d (suc a) - 1) ++ spread (d (suc a)) (rest d (suc a) n w)
+rest_least : (n h w : ℕ) → rest (suc n) h (least (h % 16) w) ≡ above (least (h % 16) w) (h % 16 - 1) ++ spread (h % 16) (rest n (h / 16) w)
 unfolding rest
-rest_least d a n w h =
-    let e : d (suc a) - least (d (suc a)) w % 16 ≡ d (suc a) - 1 = omega (arith, least_mod (d (suc a)) w (h (suc a))) in
-    rw (e, least_div (d (suc a)) w (h (suc a))) refl
+rest_least n h w =
+    let l : h % 16 ≤ 15 = omega arith in
+    let e : h % 16 - least (h % 16) w % 16 ≡ h % 16 - 1 = omega (arith, least_mod (h % 16) w l) in
+    rw (e, least_div (h % 16) w l) refl
 
-spread_from : (d : ℕ → ℕ) (a n : ℕ) → Digits d → (o : Option ℕ) → spread (d (suc a)) (from d (suc a) n o) ≡ from d a (suc n) (lift (d (suc a)) o)
+spread_from : (n h : ℕ) (o : Option ℕ) → spread (h % 16) (from n (h / 16) o) ≡ from (suc n) h (lift (h % 16) o)
 unfolding spread from lift
-spread_from d a n h None = refl
-spread_from d a n h (Some w) = ap (λ xs. least (d (suc a)) w ∷ xs) (sym (rest_least d a n w h))
+spread_from n h None = refl
+spread_from n h (Some w) = ap (λ xs. least (h % 16) w ∷ xs) (sym (rest_least n h w))
 
-pub numbers_from : (d : ℕ → ℕ) (a n : ℕ) → Digits d → numbers d a n ≡ from d a n (Some (lowest n (highest d a n)))
+pub numbers_from : (d : ℕ → ℕ) (a n : ℕ) → Digits d → numbers d a n ≡ from n (highest d a n) (Some (lowest n (highest d a n)))
 unfolding numbers from lowest rest lift
 numbers_from d a zero h = refl
 numbers_from d a (suc n) h =
-    ap (spread (d (suc a))) (numbers_from d (suc a) n h)
-    ∙ spread_from d a n h (Some (lowest n (highest d (suc a) n)))
-    ∙ rw (highest_mod d a n h, highest_div d a n h) refl
+    let k = highest d a (suc n) in
+    let here : spread (d (suc a)) (numbers d (suc a) n) ≡ spread (k % 16) (from n (k / 16) (Some (lowest n (k / 16)))) =
+    rw (highest_mod d a n h, highest_div d a n h) (ap (spread (d (suc a))) (numbers_from d (suc a) n h)) in
+    here ∙ spread_from n k (Some (lowest n (k / 16)))
 
-rest_low : (d : ℕ → ℕ) (a n v : ℕ) → Digits d → v % 16 < d (suc a) → rest d a (suc n) v ≡ (v + 1) ∷ rest d a (suc n) (v + 1)
+rest_low : (n h v : ℕ) → v % 16 < h % 16 → rest (suc n) h v ≡ (v + 1) ∷ rest (suc n) h (v + 1)
 unfolding rest
-rest_low d a n v h l =
-    let e : d (suc a) - v % 16 ≡ suc (d (suc a) - (v + 1) % 16) = omega (arith, h (suc a)) in
-    let f : (v + 1) / 16 ≡ v / 16 = omega (arith, h (suc a)) in
+rest_low n h v l =
+    let e : h % 16 - v % 16 ≡ suc (h % 16 - (v + 1) % 16) = omega arith in
+    let f : (v + 1) / 16 ≡ v / 16 = omega arith in
     let g : suc v ≡ v + 1 = omega arith in
-    rw (above_first v (d (suc a) - v % 16) (d (suc a) - (v + 1) % 16) e, g, f) refl
+    rw (above_first v (h % 16 - v % 16) (h % 16 - (v + 1) % 16) e, g, f) refl
 
-rest_high : (d : ℕ → ℕ) (a n v : ℕ) → d (suc a) ≤ v % 16 → rest d a (suc n) v ≡ spread (d (suc a)) (rest d (suc a) n (v / 16))
+rest_high : (n h v : ℕ) → h % 16 ≤ v % 16 → rest (suc n) h v ≡ spread (h % 16) (rest n (h / 16) (v / 16))
 unfolding rest above
-rest_high d a n v l = let e : d (suc a) - v % 16 ≡ 0 = omega arith in rw e refl
+rest_high n h v l = let e : h % 16 - v % 16 ≡ 0 = omega arith in rw e refl
 
-pub rest_from : (d : ℕ → ℕ) (a n : ℕ) → Digits d → (v : ℕ) → rest d a n v ≡ from d a n (following n (highest d a n) v)
+pub rest_from : (n h v : ℕ) → rest n h v ≡ from n h (following n h v)
 unfolding rest following from
-rest_from d a zero h v = refl
-rest_from d a (suc n) h v = rw (highest_mod d a n h, highest_div d a n h) (go (rest_from d (suc a) n h (v / 16)) (cases_lt (v % 16) (d (suc a))))
+rest_from zero h v = refl
+rest_from (suc n) h v = go (rest_from n (h / 16) (v / 16)) (cases_lt (v % 16) (h % 16))
   where
     o : Option ℕ
-    o = following n (highest d (suc a) n) (v / 16)
+    o = following n (h / 16) (v / 16)
 
-    go : rest d (suc a) n (v / 16) ≡ from d (suc a) n o → (v % 16 < d (suc a)) ⊎ (d (suc a) ≤ v % 16) → rest d a (suc n) v ≡ from d a (suc n) (cond (ltb (v % 16) (d (suc a))) (Some (v + 1)) (lift (d (suc a)) o))
-    go r (inl l) = rest_low d a n v h l ∙ ap (from d a (suc n)) (sym (cond-true (ltb (v % 16) (d (suc a))) (Some (v + 1)) (lift (d (suc a)) o) (lt-ltb (v % 16) (d (suc a)) l)))
+    go : rest n (h / 16) (v / 16) ≡ from n (h / 16) o → (v % 16 < h % 16) ⊎ (h % 16 ≤ v % 16) → rest (suc n) h v ≡ from (suc n) h (cond (ltb (v % 16) (h % 16)) (Some (v + 1)) (lift (h % 16) o))
+    go r (inl l) = rest_low n h v l ∙ ap (from (suc n) h) (sym (cond-true (ltb (v % 16) (h % 16)) (Some (v + 1)) (lift (h % 16) o) (lt-ltb (v % 16) (h % 16) l)))
     go r (inr l) =
-        rest_high d a n v l
-        ∙ ap (spread (d (suc a))) r
-        ∙ spread_from d a n h o
-        ∙ ap (from d a (suc n)) (sym (cond-false (ltb (v % 16) (d (suc a))) (Some (v + 1)) (lift (d (suc a)) o) (le-ltb (v % 16) (d (suc a)) l)))
+        rest_high n h v l
+        ∙ ap (spread (h % 16)) r
+        ∙ spread_from n h o
+        ∙ ap (from (suc n) h) (sym (cond-false (ltb (v % 16) (h % 16)) (Some (v + 1)) (lift (h % 16) o) (le-ltb (v % 16) (h % 16) l)))
 
 -- sizes
 pub highest_below : (d : ℕ → ℕ) (a n : ℕ) → Digits d → highest d a n < 16 ^ n

@@ -74,15 +74,15 @@ unfoldable pub following : ℕ → ℕ → ℕ → Option ℕ
 following zero h v = None
 following (suc n) h v = cond (nat_lt (v % 16) (h % 16)) (Some (v + 1)) (lift (h % 16) (following n (h / 16) (v / 16)))
 
--- the numbers under the limits that come after v
-unfoldable pub rest : (ℕ → ℕ) → ℕ → ℕ → ℕ → List ℕ
-rest d a zero v = []
-rest d a (suc n) v = above v (d (suc a) - v % 16) ++ spread (d (suc a)) (rest d (suc a) n (v / 16))
+-- the numbers of n digits under the highest, h, that come after v
+unfoldable pub rest : ℕ → ℕ → ℕ → List ℕ
+rest zero h v = []
+rest (suc n) h v = above v (h % 16 - v % 16) ++ spread (h % 16) (rest n (h / 16) (v / 16))
 
 -- those from v on, and none from None
-unfoldable pub from : (ℕ → ℕ) → ℕ → ℕ → Option ℕ → List ℕ
-from d a n None = []
-from d a n (Some v) = v ∷ rest d a n v
+unfoldable pub from : ℕ → ℕ → Option ℕ → List ℕ
+from n h None = []
+from n h (Some v) = v ∷ rest n h v
 
 -- v is one of the numbers of n digits under the highest, h
 unfoldable pub under : ℕ → ℕ → ℕ → Bool

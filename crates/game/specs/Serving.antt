@@ -1,20 +1,8 @@
 -- Which states hold for a set: what a group can bring about in one step, and what it cannot prevent.
-use Rattle.std.specs.Prelude.{ℕ, ◌+◌, Bool, true, false, cond, ◌&&◌, ◌||◌, List, [], ◌∷◌, Some, None, Option, slice_index_or}
+use Rattle.std.specs.Prelude.{ℕ, ◌+◌, Bool, false, List, Some, None, Option, slice_index_or}
+use Rattle.std.specs.List.{list_all, list_any, find}
 use Rattle.game.specs.Structure.{Structure}
 use Rattle.game.specs.Lists.{choices, replies}
-
-abbrev pub every : (ℕ → Bool) → List ℕ → Bool
-every p [] = true
-every p (x ∷ xs) = p x && every p xs
-
-abbrev pub some : (ℕ → Bool) → List ℕ → Bool
-some p [] = false
-some p (x ∷ xs) = p x || some p xs
-
--- the first that passes
-abbrev pub find : (ℕ → Bool) → List ℕ → Option ℕ
-find p [] = None
-find p (x ∷ xs) = cond (p x) (Some x) (find p xs)
 
 -- some state, and one of the set
 abbrev pub within : (ℕ → Bool) → Option ℕ → Bool
@@ -31,11 +19,11 @@ leads m q I c r = within I (m.next q (c + r))
 
 -- every reply to c leads into I
 unfoldable pub serves : Structure → ℕ → ℕ → (ℕ → Bool) → ℕ → Bool
-serves m A q I c = every (leads m q I c) (replies m A q)
+serves m A q I c = list_all (leads m q I c) (replies m A q)
 
 -- some reply to c leads into I
 unfoldable pub answers : Structure → ℕ → ℕ → (ℕ → Bool) → ℕ → Bool
-answers m A q I c = some (leads m q I c) (replies m A q)
+answers m A q I c = list_any (leads m q I c) (replies m A q)
 
 -- the smallest choice that serves
 unfoldable pub first_serving : Structure → ℕ → ℕ → (ℕ → Bool) → Option ℕ
@@ -43,4 +31,4 @@ first_serving m A q I = find (serves m A q I) (choices m A q)
 
 -- every choice is answered
 unfoldable pub all_answered : Structure → ℕ → ℕ → (ℕ → Bool) → Bool
-all_answered m A q I = every (answers m A q I) (choices m A q)
+all_answered m A q I = list_all (answers m A q I) (choices m A q)
