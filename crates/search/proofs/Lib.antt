@@ -1,2 +1,2 @@
-mod Steps
+mod Turns
 mod Loops

@@ -1,14 +1,16 @@
 use Rattle.std.proofs.Common.{◌≡◌, ℕ, ◌<◌, Bool, true, false, sym, ap, ◌∙◌, subst}
+use Rattle.std.specs.List.{list_all, list_any}
 use Rattle.game.specs.Structure.{Structure, Limits}
 use Rattle.game.specs.Lists.{own, other}
 use Rattle.game.proofs.Division.{own_digits, other_digits}
-use Rattle.game.specs.Serving.{every, some, set_of, leads, answers, all_answered}
+use Rattle.game.specs.Serving.{set_of, leads, answers, all_answered}
 use Rattle.game.specs.Reading.{Answering}
 use Rattle.game.proofs.Reading.{reads_answering}
-use Rattle.search.proofs.Loops.{started, turned, every_pass, every_fail, some_pass, some_fail, from_none, from_some, small}
+use Rattle.search.specs.Left.{numbers_left}
+use Rattle.search.proofs.Loops.{Short, all_under, all_pass, all_fail, any_pass, any_fail}
 use Rattle.search.proofs.answering.Goals as goal
 
--- the answer, and what it says of the game
+-- the answer and what it says of the game
 both : (m : Structure) → Limits m → (A q : ℕ) (I : ℕ → Bool) {r : Bool} → r ≡ all_answered m A q I → record { value : r ≡ all_answered m A q I; plain : q < m.states → Answering m A q I r }
 both m L A q I e = record { value = e; plain = λ l. subst (Answering m A q I) (sym e) (reads_answering m A q I L l) }
 
@@ -16,58 +18,50 @@ pub choices-init : goal.choices-init
 unfolding all_answered
 choices-init g c =
     let m = g.G.Game.meaning c.args.game.now in
-    let s = started (own m c.args.group c.args.state) (own_digits m c.args.group c.args.state (g.G.Game.limits c.args.game.now)) c.at-sides.ensures.players c.at-sides.ensures.choice c.lowest.ensures in
-    (s.fits, ap (every (answers m c.args.group c.args.state (set_of c.args.inside.now))) s.list)
+    let L = g.G.Game.limits c.args.game.now in
+    let s = all_under (own m c.args.group c.args.state) (own_digits m c.args.group c.args.state L) L.six c.at-sides.ensures.players c.at-sides.ensures.choice (ap numbers_left c.into_iter-choice-iterator.ensures.into_iter_gives ∙ c.under-choices.ensures) in
+    record { next = tt; ends = tt; decides = ap (list_all (answers m c.args.group c.args.state (set_of c.args.inside.now))) s.is; short = s.short }
 
-pub replies-init : goal.replies-init
+pub loop-reply-init : goal.loop-reply-init
 unfolding answers
-replies-init g c =
+loop-reply-init g c =
     let m = g.G.Game.meaning c.args.game.now in
-    let s = started (other m c.args.group c.args.state) (other_digits m c.args.group c.args.state (g.G.Game.limits c.args.game.now)) c.at-sides.ensures.players c.at-sides.ensures.reply c.lowest-first.ensures in
-    (s.fits, ap (some (leads m c.args.state (set_of c.args.inside.now) c.in-Some.c)) s.list)
-
-pub choices-smaller : goal.choices-smaller
-choices-smaller g c =
-    let m = g.G.Game.meaning c.args.game.now in
-    (turned (own m c.args.group c.args.state) (own_digits m c.args.group c.args.state (g.G.Game.limits c.args.game.now)) c.at-sides.ensures.players c.at-sides.ensures.choice c.in-Some.is c.choices.invariant.0 c.following-choice.ensures).less
+    let L = g.G.Game.limits c.args.game.now in
+    let s = all_under (other m c.args.group c.args.state) (other_digits m c.args.group c.args.state L) L.six c.at-sides.ensures.players c.at-sides.ensures.reply (ap numbers_left c.into_iter-reply-iterator.ensures.into_iter_gives ∙ c.under-replies.ensures) in
+    record { next = tt; ends = tt; decides = ap (list_any (leads m c.args.state (set_of c.args.inside.now) c.in-Some.choice)) s.is; short = s.short }
 
 pub choices-preserved : goal.choices-preserved
 unfolding leads
 choices-preserved g c =
     let m = g.G.Game.meaning c.args.game.now in
-    let t = turned (own m c.args.group c.args.state) (own_digits m c.args.group c.args.state (g.G.Game.limits c.args.game.now)) c.at-sides.ensures.players c.at-sides.ensures.choice c.in-Some.is c.choices.invariant.0 c.following-choice.ensures in
-    let f = leads m c.args.state (set_of c.args.inside.now) c.in-Some.c in
-    let answered : answers m c.args.group c.args.state (set_of c.args.inside.now) c.in-Some.c ≡ true =
-    c.replies.invariant.1 ∙ some_pass f (from_some (other m c.args.group c.args.state) m.players c.in-Some-reply.is) (sym c.if-leads_in.ensures) in
-    (t.fits, c.choices.invariant.1 ∙ every_pass (answers m c.args.group c.args.state (set_of c.args.inside.now)) t.list answered)
+    let answered : answers m c.args.group c.args.state (set_of c.args.inside.now) c.in-Some.choice ≡ true =
+    c.loop-reply.invariant.decides ∙ any_pass (leads m c.args.state (set_of c.args.inside.now) c.in-Some.choice) c.in-Some-reply.ensures.steps (sym c.leads_in.ensures ∙ c.if-leads_in.true) in
+    record {
+      next = tt;
+      ends = tt;
+      decides = c.choices.invariant.decides ∙ all_pass (answers m c.args.group c.args.state (set_of c.args.inside.now)) c.in-Some.ensures.steps answered;
+      short = (subst Short c.in-Some.ensures.steps c.choices.invariant.short).1;
+    }
 
-pub replies-smaller : goal.replies-smaller
-replies-smaller g c =
-    let m = g.G.Game.meaning c.args.game.now in
-    (turned (other m c.args.group c.args.state) (other_digits m c.args.group c.args.state (g.G.Game.limits c.args.game.now)) c.at-sides.ensures.players c.at-sides.ensures.reply c.in-Some-reply.is c.replies.invariant.0 c.following-reply.ensures).less
-
-pub replies-preserved : goal.replies-preserved
+pub loop-reply-preserved : goal.loop-reply-preserved
 unfolding leads
-replies-preserved g c =
+loop-reply-preserved g c =
     let m = g.G.Game.meaning c.args.game.now in
-    let t = turned (other m c.args.group c.args.state) (other_digits m c.args.group c.args.state (g.G.Game.limits c.args.game.now)) c.at-sides.ensures.players c.at-sides.ensures.reply c.in-Some-reply.is c.replies.invariant.0 c.following-reply.ensures in
-    (t.fits, c.replies.invariant.1 ∙ some_fail (leads m c.args.state (set_of c.args.inside.now) c.in-Some.c) t.list (sym c.if-leads_in.ensures))
+    record {
+      next = tt;
+      ends = tt;
+      decides = c.loop-reply.invariant.decides ∙ any_fail (leads m c.args.state (set_of c.args.inside.now) c.in-Some.choice) c.in-Some-reply.ensures.steps (sym c.leads_in.ensures ∙ c.if-leads_in.false);
+      short = (subst Short c.in-Some-reply.ensures.steps c.loop-reply.invariant.short).1;
+    }
 
-pub leads_in-requires : goal.leads_in-requires
-leads_in-requires g c =
-    let six = (g.G.Game.limits c.args.game.now).six in
-    (small six c.choices.invariant.0 c.in-Some.is, small six c.replies.invariant.0 c.in-Some-reply.is)
-
-pub returns-in-Some : goal.returns-in-Some
-returns-in-Some g c =
+pub returns-in-choices : goal.returns-in-choices
+returns-in-choices g c =
     let m = g.G.Game.meaning c.args.game.now in
-    let t = turned (own m c.args.group c.args.state) (own_digits m c.args.group c.args.state (g.G.Game.limits c.args.game.now)) c.at-sides.ensures.players c.at-sides.ensures.choice c.in-Some.is c.choices.invariant.0 c.following-choice.ensures in
-    let not_answered : answers m c.args.group c.args.state (set_of c.args.inside.now) c.in-Some.c ≡ false =
-    c.replies.invariant.1 ∙ ap (some (leads m c.args.state (set_of c.args.inside.now) c.in-Some.c)) (from_none (other m c.args.group c.args.state) m.players c.in_default-reply.is) in
-    both m (g.G.Game.limits c.args.game.now) c.args.group c.args.state (set_of c.args.inside.now) (sym (c.choices.invariant.1 ∙ every_fail (answers m c.args.group c.args.state (set_of c.args.inside.now)) t.list not_answered))
+    let unanswered : answers m c.args.group c.args.state (set_of c.args.inside.now) c.in-Some.choice ≡ false =
+    c.loop-reply.invariant.decides ∙ ap (list_any (leads m c.args.state (set_of c.args.inside.now) c.in-Some.choice)) c.in-None-reply.ensures.steps.0 in
+    both m (g.G.Game.limits c.args.game.now) c.args.group c.args.state (set_of c.args.inside.now) (sym (c.choices.invariant.decides ∙ all_fail (answers m c.args.group c.args.state (set_of c.args.inside.now)) c.in-Some.ensures.steps unanswered))
 
 pub returns : goal.returns
-unfolding all_answered
 returns g c =
     let m = g.G.Game.meaning c.args.game.now in
-    both m (g.G.Game.limits c.args.game.now) c.args.group c.args.state (set_of c.args.inside.now) (sym (c.choices.invariant.1 ∙ ap (every (answers m c.args.group c.args.state (set_of c.args.inside.now))) (from_none (own m c.args.group c.args.state) m.players c.in_default.is)))
+    both m (g.G.Game.limits c.args.game.now) c.args.group c.args.state (set_of c.args.inside.now) (sym (c.choices.invariant.decides ∙ ap (list_all (answers m c.args.group c.args.state (set_of c.args.inside.now))) c.in-None.ensures.steps.0))

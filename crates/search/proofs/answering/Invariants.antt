@@ -1,23 +1,24 @@
-use Rattle.std.proofs.Common.{◌≡◌, length}
-use Rattle.game.specs.Lists.{from, own, other}
-use Rattle.game.proofs.Walk.{Fits}
-use Rattle.game.specs.Serving.{every, some, set_of, leads, answers, all_answered}
+use Rattle.std.proofs.Common.{◌≡◌}
+use Rattle.std.specs.List.{list_all, list_any}
+use Rattle.game.specs.Serving.{set_of, leads, answers, all_answered}
+use Rattle.search.specs.Left.{numbers_left}
+use Rattle.search.proofs.Loops.{Short}
 use Rattle.search.proofs.answering.Given as goal
 
--- what is left of the choices decides
+-- the choices that are left decide
 abbrev pub invariant-choices : goal.invariant-choices
-invariant-choices g l =
-    Fits (g.G.Game.meaning l.game).players l.choice
-    × (all_answered (g.G.Game.meaning l.game) l.group l.state (set_of l.inside) ≡ every (answers (g.G.Game.meaning l.game) l.group l.state (set_of l.inside)) (from (own (g.G.Game.meaning l.game) l.group l.state) 0 (g.G.Game.meaning l.game).players l.choice))
+invariant-choices g l = record {
+  next : (goal.iterator-choices g).can_next l.choice-iterator;
+  ends : (goal.iterator-choices g).is_finite l.choice-iterator;
+  decides : all_answered (g.G.Game.meaning l.game) l.group l.state (set_of l.inside) ≡ list_all (answers (g.G.Game.meaning l.game) l.group l.state (set_of l.inside)) (numbers_left l.choice-iterator);
+  short : Short (numbers_left l.choice-iterator);
+}
 
-abbrev pub decreases-choices : goal.decreases-choices
-decreases-choices g l = length (from (own (g.G.Game.meaning l.game) l.group l.state) 0 (g.G.Game.meaning l.game).players l.choice)
-
--- what is left of the replies decides
-abbrev pub invariant-replies : goal.invariant-replies
-invariant-replies g l =
-    Fits (g.G.Game.meaning l.game).players l.reply
-    × (answers (g.G.Game.meaning l.game) l.group l.state (set_of l.inside) l.c ≡ some (leads (g.G.Game.meaning l.game) l.state (set_of l.inside) l.c) (from (other (g.G.Game.meaning l.game) l.group l.state) 0 (g.G.Game.meaning l.game).players l.reply))
-
-abbrev pub decreases-replies : goal.decreases-replies
-decreases-replies g l = length (from (other (g.G.Game.meaning l.game) l.group l.state) 0 (g.G.Game.meaning l.game).players l.reply)
+-- the replies that are left decide
+abbrev pub invariant-loop-reply : goal.invariant-loop-reply
+invariant-loop-reply g l = record {
+  next : (goal.iterator-loop-reply g).can_next l.reply-iterator;
+  ends : (goal.iterator-loop-reply g).is_finite l.reply-iterator;
+  decides : answers (g.G.Game.meaning l.game) l.group l.state (set_of l.inside) l.choice ≡ list_any (leads (g.G.Game.meaning l.game) l.state (set_of l.inside) l.choice) (numbers_left l.reply-iterator);
+  short : Short (numbers_left l.reply-iterator);
+}

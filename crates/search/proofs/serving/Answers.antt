@@ -1,11 +1,13 @@
-use Rattle.std.proofs.Common.{◌≡◌, ℕ, ◌<◌, Bool, true, false, Option, sym, refl, ap, ◌∙◌, subst}
+use Rattle.std.proofs.Common.{◌≡◌, ℕ, ◌<◌, Bool, true, false, Option, sym, ap, ◌∙◌, subst}
+use Rattle.std.specs.List.{list_all, find}
 use Rattle.game.specs.Structure.{Structure, Limits}
 use Rattle.game.specs.Lists.{own, other}
 use Rattle.game.proofs.Division.{own_digits, other_digits}
-use Rattle.game.specs.Serving.{every, find, set_of, leads, serves, first_serving}
+use Rattle.game.specs.Serving.{set_of, leads, serves, first_serving}
 use Rattle.game.specs.Reading.{Serving}
 use Rattle.game.proofs.Reading.{reads_serving}
-use Rattle.search.proofs.Loops.{started, turned, find_miss, find_hit, every_pass, every_fail, from_none, from_some, small}
+use Rattle.search.specs.Left.{numbers_left}
+use Rattle.search.proofs.Loops.{Short, all_under, find_miss, find_hit, all_pass, all_fail}
 use Rattle.search.proofs.serving.Goals as goal
 
 -- the answer and what it says of the game
@@ -16,58 +18,50 @@ pub choices-init : goal.choices-init
 unfolding first_serving
 choices-init g c =
     let m = g.G.Game.meaning c.args.game.now in
-    let s = started (own m c.args.group c.args.state) (own_digits m c.args.group c.args.state (g.G.Game.limits c.args.game.now)) c.at-sides.ensures.players c.at-sides.ensures.choice c.lowest.ensures in
-    (s.fits, ap (find (serves m c.args.group c.args.state (set_of c.args.inside.now))) s.list, refl)
+    let L = g.G.Game.limits c.args.game.now in
+    let s = all_under (own m c.args.group c.args.state) (own_digits m c.args.group c.args.state L) L.six c.at-sides.ensures.players c.at-sides.ensures.choice (ap numbers_left c.into_iter-choice-iterator.ensures.into_iter_gives ∙ c.under-choices.ensures) in
+    record { next = tt; ends = tt; decides = ap (find (serves m c.args.group c.args.state (set_of c.args.inside.now))) s.is; short = s.short }
 
-pub replies-init : goal.replies-init
+pub loop-reply-init : goal.loop-reply-init
 unfolding serves
-replies-init g c =
+loop-reply-init g c =
     let m = g.G.Game.meaning c.args.game.now in
-    let s = started (other m c.args.group c.args.state) (other_digits m c.args.group c.args.state (g.G.Game.limits c.args.game.now)) c.at-sides.ensures.players c.at-sides.ensures.reply c.lowest-first.ensures in
-    (s.fits, ap (every (leads m c.args.state (set_of c.args.inside.now) c.in-Some.c)) s.list)
-
-pub choices-smaller : goal.choices-smaller
-choices-smaller g c =
-    let m = g.G.Game.meaning c.args.game.now in
-    (turned (own m c.args.group c.args.state) (own_digits m c.args.group c.args.state (g.G.Game.limits c.args.game.now)) c.at-sides.ensures.players c.at-sides.ensures.choice c.in-Some.is c.choices.invariant.0 c.following-choice.ensures).less
+    let L = g.G.Game.limits c.args.game.now in
+    let s = all_under (other m c.args.group c.args.state) (other_digits m c.args.group c.args.state L) L.six c.at-sides.ensures.players c.at-sides.ensures.reply (ap numbers_left c.into_iter-reply-iterator.ensures.into_iter_gives ∙ c.under-replies.ensures) in
+    record { next = tt; ends = tt; decides = ap (list_all (leads m c.args.state (set_of c.args.inside.now) c.in-Some.choice)) s.is; short = s.short }
 
 pub choices-preserved : goal.choices-preserved
 unfolding leads
 choices-preserved g c =
     let m = g.G.Game.meaning c.args.game.now in
-    let t = turned (own m c.args.group c.args.state) (own_digits m c.args.group c.args.state (g.G.Game.limits c.args.game.now)) c.at-sides.ensures.players c.at-sides.ensures.choice c.in-Some.is c.choices.invariant.0 c.following-choice.ensures in
-    let f = leads m c.args.state (set_of c.args.inside.now) c.in-Some.c in
-    let out : serves m c.args.group c.args.state (set_of c.args.inside.now) c.in-Some.c ≡ false =
-    c.replies.invariant.1 ∙ every_fail f (from_some (other m c.args.group c.args.state) m.players c.in-Some-reply.is) (sym c.if-not-leads_in.ensures) in
-    (t.fits, c.choices.invariant.1 ∙ find_miss (serves m c.args.group c.args.state (set_of c.args.inside.now)) t.list out, c.choices.invariant.2)
+    let out : serves m c.args.group c.args.state (set_of c.args.inside.now) c.in-Some.choice ≡ false =
+    c.loop-reply.invariant.decides ∙ all_fail (leads m c.args.state (set_of c.args.inside.now) c.in-Some.choice) c.in-Some-reply.ensures.steps (sym c.leads_in.ensures ∙ c.if-not-leads_in.true) in
+    record {
+      next = tt;
+      ends = tt;
+      decides = c.choices.invariant.decides ∙ find_miss (serves m c.args.group c.args.state (set_of c.args.inside.now)) c.in-Some.ensures.steps out;
+      short = (subst Short c.in-Some.ensures.steps c.choices.invariant.short).1;
+    }
 
-pub replies-smaller : goal.replies-smaller
-replies-smaller g c =
-    let m = g.G.Game.meaning c.args.game.now in
-    (turned (other m c.args.group c.args.state) (other_digits m c.args.group c.args.state (g.G.Game.limits c.args.game.now)) c.at-sides.ensures.players c.at-sides.ensures.reply c.in-Some-reply.is c.replies.invariant.0 c.following-reply.ensures).less
-
-pub replies-preserved : goal.replies-preserved
+pub loop-reply-preserved : goal.loop-reply-preserved
 unfolding leads
-replies-preserved g c =
+loop-reply-preserved g c =
     let m = g.G.Game.meaning c.args.game.now in
-    let t = turned (other m c.args.group c.args.state) (other_digits m c.args.group c.args.state (g.G.Game.limits c.args.game.now)) c.at-sides.ensures.players c.at-sides.ensures.reply c.in-Some-reply.is c.replies.invariant.0 c.following-reply.ensures in
-    (t.fits, c.replies.invariant.1 ∙ every_pass (leads m c.args.state (set_of c.args.inside.now) c.in-Some.c) t.list (sym c.if-not-leads_in.ensures))
+    record {
+      next = tt;
+      ends = tt;
+      decides = c.loop-reply.invariant.decides ∙ all_pass (leads m c.args.state (set_of c.args.inside.now) c.in-Some.choice) c.in-Some-reply.ensures.steps (sym c.leads_in.ensures ∙ c.if-not-leads_in.false);
+      short = (subst Short c.in-Some-reply.ensures.steps c.loop-reply.invariant.short).1;
+    }
 
-pub leads_in-requires : goal.leads_in-requires
-leads_in-requires g c =
-    let six = (g.G.Game.limits c.args.game.now).six in
-    (small six c.choices.invariant.0 c.in-Some.is, small six c.replies.invariant.0 c.in-Some-reply.is)
-
-pub returns-in_default-reply : goal.returns-in_default-reply
-returns-in_default-reply g c =
+pub returns-in-choices : goal.returns-in-choices
+returns-in-choices g c =
     let m = g.G.Game.meaning c.args.game.now in
-    let t = turned (own m c.args.group c.args.state) (own_digits m c.args.group c.args.state (g.G.Game.limits c.args.game.now)) c.at-sides.ensures.players c.at-sides.ensures.choice c.in-Some.is c.choices.invariant.0 c.following-choice.ensures in
-    let all_in : serves m c.args.group c.args.state (set_of c.args.inside.now) c.in-Some.c ≡ true =
-    c.replies.invariant.1 ∙ ap (every (leads m c.args.state (set_of c.args.inside.now) c.in-Some.c)) (from_none (other m c.args.group c.args.state) m.players c.in_default-reply.is) in
-    both m (g.G.Game.limits c.args.game.now) c.args.group c.args.state (set_of c.args.inside.now) (sym (c.choices.invariant.1 ∙ find_hit (serves m c.args.group c.args.state (set_of c.args.inside.now)) t.list all_in))
+    let all_in : serves m c.args.group c.args.state (set_of c.args.inside.now) c.in-Some.choice ≡ true =
+    c.loop-reply.invariant.decides ∙ ap (list_all (leads m c.args.state (set_of c.args.inside.now) c.in-Some.choice)) c.in-None-reply.ensures.steps.0 in
+    both m (g.G.Game.limits c.args.game.now) c.args.group c.args.state (set_of c.args.inside.now) (sym (c.choices.invariant.decides ∙ find_hit (serves m c.args.group c.args.state (set_of c.args.inside.now)) c.in-Some.ensures.steps all_in))
 
-pub returns-in_default : goal.returns-in_default
-unfolding first_serving
-returns-in_default g c =
+pub returns : goal.returns
+returns g c =
     let m = g.G.Game.meaning c.args.game.now in
-    both m (g.G.Game.limits c.args.game.now) c.args.group c.args.state (set_of c.args.inside.now) (c.choices.invariant.2 ∙ sym (c.choices.invariant.1 ∙ ap (find (serves m c.args.group c.args.state (set_of c.args.inside.now))) (from_none (own m c.args.group c.args.state) m.players c.in_default.is)))
+    both m (g.G.Game.limits c.args.game.now) c.args.group c.args.state (set_of c.args.inside.now) (sym (c.choices.invariant.decides ∙ ap (find (serves m c.args.group c.args.state (set_of c.args.inside.now))) c.in-None.ensures.steps.0))

@@ -1,0 +1,7 @@
+-- What an iterator over numbers has left.
+use Rattle.std.specs.Prelude.{ℕ, List}
+use Rattle.search.specs.declared.numbers.Numbers.{Numbers}
+use Rattle.game.specs.Lists.{from}
+
+abbrev pub numbers_left : Numbers → List ℕ
+numbers_left s = from s.players s.highest s.next

@@ -1,0 +1,71 @@
+// The numbers under the highest one, four bits a player, from the lowest on.
+ghost use Rattle.std.specs.Prelude.{◌≡◌, ℕ, min, Some};
+ghost use Rattle.std.specs.Iterator.{YieldsFirst, item_count};
+ghost use Rattle.game.specs.Lists.{from, lowest as lowest_of, following as following_of};
+ghost use Rattle.search.specs.Left.{numbers_left};
+
+// The first move of one who has so many: 1, or 0 where there is none.
+fn first_move(moves: u32) -> u32
+    ensures { result ≡ min moves 1 }
+{
+    moves.min(1)
+}
+
+// The lowest number under the highest one.
+pub fn lowest(players: u8, highest: u32) -> u32
+    ensures { result ≡ lowest_of players highest }
+{
+    if players == 0 {
+        return 0;
+    }
+    lowest(players - 1, highest / 16) * 16 + first_move(highest % 16)
+}
+
+// The next number under the highest one: the digits that are at their limits go back to the lowest, and the one after them goes up.
+fn following(players: u8, highest: u32, number: u32) -> Option<u32>
+    ensures { result ≡ following_of players highest number }
+{
+    if players == 0 {
+        return None;
+    }
+    if number % 16 < highest % 16 {
+        return Some(number + 1);
+    }
+    let others = following(players - 1, highest / 16, number / 16)?;
+    Some(others * 16 + first_move(highest % 16))
+}
+
+// The numbers that are still to come. It is `Copy`, since each choice goes through the replies again.
+#[derive(Clone, Copy)]
+pub struct Numbers {
+    players: u8,
+    highest: u32,
+    next: Option<u32>,
+}
+
+impl Numbers {
+    // All numbers under the highest one.
+    pub fn under(players: u8, highest: u32) -> Numbers
+        ensures { numbers_left result ≡ from players highest (Some (lowest_of players highest)) }
+    {
+        Numbers {
+            players,
+            highest,
+            next: Some(lowest(players, highest)),
+        }
+    }
+}
+
+impl Iterator for Numbers {
+    type Item = u32;
+
+    ghost next_gives = { YieldsFirst numbers_left };
+
+    ghost remaining = { item_count numbers_left };
+
+    fn next(&mut self) -> Option<u32> {
+        let number = self.next?;
+        self.next = following(self.players, self.highest, number);
+        Some(number)
+    }
+}
