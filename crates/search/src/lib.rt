@@ -12,15 +12,14 @@ use crate::numbers::{Numbers, lowest};
 use game::{Game, Sides};
 
 // Whether the reply to the choice leads to a state of the set.
+#[tactic(auto, unfolding(game::specs::Serving::set_of))]
 fn leads_in<G: Game>(game: &G, state: u8, choice: u32, reply: u32, inside: &[bool; 256]) -> bool
     requires choice { choice < 2 ^ 24 }
     requires reply { reply < 2 ^ 24 }
     ensures { result ≡ within (set_of inside.now) ((G.Game.meaning game.now).next state (choice + reply)) }
 {
-    match game.next(state, choice + reply) {
-        Some(t) => inside[t as usize],
-        None => false,
-    }
+    game.next(state, choice + reply)
+        .is_some_and(|t| inside[t as usize])
 }
 
 // The smallest choice of the group all of whose replies lead into the set.
