@@ -1,7 +1,7 @@
 -- What a binding is at first, and where it leads.
-use Rattle.std.proofs.Common.{◌≡◌, ℕ, zero, suc, ◌+◌, ◌-◌, ◌*◌, ◌/◌, ◌%◌, ◌^◌, ◌<◌, ◌≤◌, min, Bool, true, false, cond, ◌&&◌, eqb, ltb, List, get_or, replicate, None, sym, refl, ap, ◌∙◌, subst, ap₂, ⊎_elim, arith}
+use Rattle.std.proofs.Common.{◌≡◌, ℕ, zero, suc, ◌+◌, ◌-◌, ◌*◌, ◌/◌, ◌%◌, ◌^◌, ◌<◌, ◌≤◌, min, Bool, true, false, cond, ◌&&◌, eqb, ltb, List, get_or, replicate, None, sym, refl, ap, ◌∙◌, subst, ap₂, ⊎_elim, arith, lit<, lit≤}
 use mathlib.Core.Path.{fun_ext}
-use native.Mathlib.Nat.{pow-succ', div-div-eq-div-mul}
+use native.Mathlib.Nat.{pow-succ', div-div-eq-div-mul, one-le-pow, pow-le-pow_right}
 use lib.ListN.{get_or-replicate}
 use Rattle.std.proofs.lemmas.Nat.{field_of, mod-pow-add}
 use Rattle.std.proofs.lemmas.Bool.{cases_lt}
@@ -10,7 +10,7 @@ use Rattle.game.specs.Lists.{member, highest, under}
 use Rattle.game.specs.Bound.{placed, bound}
 use Rattle.game.proofs.Bounding.{bound_there, bound_back}
 use Rattle.binding.specs.Entries.{entry_at, present, first_moves, FollowsLawful, AtFirst}
-use Rattle.binding.proofs.Digits.{digit_more, digit_room}
+use Rattle.binding.proofs.Digits.{digit_more}
 
 pub first_none : (n A : ℕ) → n ≡ 0 → 0 ≡ first_moves n A
 unfolding first_moves
@@ -26,8 +26,14 @@ unfolding first_moves
 first_below zero A = omega arith
 first_below (suc n) A = digit_more n _ _ (first_below n (A / 2)) (omega arith)
 
-pub first_room : (n A x : ℕ) → (n ≡ 0 → ⊥) → n ≤ 6 → x ≡ first_moves (n - 1) (A / 2) → x < 2 ^ 20
-first_room n A x z l f = digit_room n x z l (rw f (first_below (n - 1) (A / 2)))
+first_fits : (k n A : ℕ) → A < 2 ^ k → first_moves n A < 16 ^ k
+unfolding first_moves
+first_fits k zero A l = one-le-pow k 16 (lit< tt)
+first_fits zero (suc n) A l = omega (arith, first_fits zero n (A / 2) (omega arith))
+first_fits (suc k) (suc n) A l = digit_more k _ _ (first_fits k n (A / 2) (omega (arith, pow-succ' 2 k))) (omega arith)
+
+pub first_room : (n A x : ℕ) → A < 2 ^ 8 → x ≡ first_moves (n - 1) (A / 2) → x < 2 ^ 28
+first_room n A x l f = omega (arith, f, first_fits 7 (n - 1) (A / 2) (omega arith))
 
 shift : (b v k : ℕ) → v / b / b ^ k ≡ v / b ^ suc k
 shift b v k = div-div-eq-div-mul v b (b ^ k) ∙ ap (λ x. v / x) (sym (pow-succ' b k))
@@ -48,6 +54,10 @@ present_bit : (n k A : ℕ) → k < n → present n A / 2 ^ k % 2 ≡ A / 2 ^ k 
 present_bit n k A l =
     let e : n ≡ n - suc k + 1 + k = omega arith in
     ap (λ x. A % 2 ^ x / 2 ^ k % 2) e ∙ ap (λ x. x % 2) (field_of A (n - suc k + 1) k ∙ mod-pow-add (A / 2 ^ k) (n - suc k) 1) ∙ omega arith
+
+-- as the program keeps them
+pub kept : (n A : ℕ) → n ≤ 6 → A % (1 * 2 ^ n % 2 ^ 8) ≡ present n A
+kept n A l = let e : 1 * 2 ^ n % 2 ^ 8 ≡ 2 ^ n = omega (arith, pow-le-pow_right {n = 2} (lit≤ tt) l) in ap (λ x. A % x) e
 
 -- a group counts only through its members' moves
 built : (m : Structure) (l o : ℕ → ℕ → ℕ) (f : ℕ → ℕ) → Structure

@@ -1,12 +1,13 @@
 -- The entry's moves in the members' places, as the program puts them there.
 use Rattle.std.proofs.Common.{◌≡◌, ℕ, zero, suc, ◌+◌, ◌-◌, ◌*◌, ◌/◌, ◌%◌, ◌^◌, ◌<◌, ◌≤◌, min, Bool, true, false, cond, eqb, refl, ap, ◌∙◌, arith}
+use native.Mathlib.Nat.{pow-succ'}
 use Rattle.std.proofs.lemmas.Bool.Decides.{nat_tests}
 use Rattle.game.specs.Structure.{Structure, Limits}
 use Rattle.game.specs.Lists.{member, own, other, highest}
 use Rattle.game.specs.Bound.{left, legal, placed}
 use Rattle.game.proofs.Walk.{highest_mod, highest_div}
 use Rattle.game.proofs.Division.{own_digits, other_digits}
-use Rattle.binding.proofs.Digits.{digit_more, digit_room}
+use Rattle.binding.proofs.Digits.{digit_more}
 
 -- one player's digit: the limit d, the entry's move e, its own v
 abbrev pub replaced : (d e v : ℕ) → ℕ
@@ -24,15 +25,21 @@ unfolding placed
 placed_more zero h e v z = absurd (z refl)
 placed_more (suc n) h e v z = let k : suc n - 1 ≡ n = omega arith in rw k refl
 
-placed_below : (n h e v : ℕ) → placed n h e v < 16 ^ n
+replaced_none : (d e v : ℕ) → d ≡ 0 → replaced d e v ≡ v
+replaced_none d e v z = rw z refl
+
+-- no longer than the limits and the vector
+placed_fits : (k n h e v : ℕ) → h < 16 ^ k → v < 16 ^ k → placed n h e v < 16 ^ k
 unfolding placed
-placed_below zero h e v = omega arith
-placed_below (suc n) h e v = digit_more n _ _ (placed_below n (h / 16) (e / 16) (v / 16)) (replaced_small (h % 16) (e % 16) (v % 16) (omega arith) (omega arith))
+placed_fits k zero h e v l m = omega arith
+placed_fits zero (suc n) h e v l m = omega (arith, placed_fits zero n (h / 16) (e / 16) (v / 16) (omega arith) (omega arith), replaced_none (h % 16) (e % 16) (v % 16) (omega arith))
+placed_fits (suc k) (suc n) h e v l m =
+    digit_more k _ _ (placed_fits k n (h / 16) (e / 16) (v / 16) (omega (arith, pow-succ' 16 k)) (omega (arith, pow-succ' 16 k))) (replaced_small (h % 16) (e % 16) (v % 16) (omega arith) (omega arith))
 
 -- the sum that makes the number does not wrap
-pub placed_room : (n h e v x y : ℕ) → (n ≡ 0 → ⊥) → n ≤ 6 → x ≡ placed (n - 1) (h / 16) (e / 16) (v / 16) → y ≡ replaced (h % 16) (e % 16) (v % 16) → (x < 2 ^ 20) × (y ≤ 15)
-placed_room n h e v x y z l f g = (
-  digit_room n x z l (rw f (placed_below (n - 1) (h / 16) (e / 16) (v / 16))),
+pub placed_room : (n h e v x y : ℕ) → h < 2 ^ 32 → v < 2 ^ 32 → x ≡ placed (n - 1) (h / 16) (e / 16) (v / 16) → y ≡ replaced (h % 16) (e % 16) (v % 16) → (x < 2 ^ 28) × (y ≤ 15)
+placed_room n h e v x y l m f g = (
+  omega (arith, f, placed_fits 7 (n - 1) (h / 16) (e / 16) (v / 16) (omega arith) (omega arith)),
   rw g (replaced_small (h % 16) (e % 16) (v % 16) (omega arith) (omega arith)),
 )
 

@@ -8,7 +8,7 @@ ghost use Rattle.game.specs.Bound.{bound, left, legal, placed};
 ghost use Rattle.game.proofs.Bounding.{bound_limits};
 ghost use Rattle.binding.specs.Entries.{entry_at, present, first_moves, FollowsLawful, AtFirst, KeepsLawful, Judged, Sets};
 
-use game::{Game, Sides, is_choice, is_under};
+use game::{Game, Sides, is_choice, is_member, is_under};
 use refusal::Refusal;
 
 // What the group has bound itself to: its choice at each state.
@@ -44,25 +44,8 @@ pub struct Binding<G> {
     entries: Entries,
 }
 
-// Whether the player is in the group.
-fn is_member(group: u8, player: u8) -> bool
-    requires { (0 < player) × (player ≤ 6) }
-    ensures { result ≡ member player group }
-{
-    (group >> (player - 1)) % 2 == 1
-}
-
-// The group without the bits of missing players.
-fn only_present(players: u8, group: u8) -> u8
-    requires { players ≤ 6 }
-    ensures { result ≡ present players group }
-{
-    group % (1 << players)
-}
-
 // Move 1 for each member of the group, four bits a player.
 fn all_first(players: u8, group: u8) -> u32
-    requires { players ≤ 6 }
     ensures { result ≡ first_moves players group }
 {
     if players == 0 {
@@ -86,7 +69,6 @@ fn bound_move(limit: u32, entry: u32, played: u32) -> u32
 
 // The vector with the entry's moves in the members' places.
 fn with_entry(players: u8, most: u32, entry: u32, vector: u32) -> u32
-    requires { players ≤ 6 }
     ensures { result ≡ placed players most entry vector }
 {
     if players == 0 {
@@ -96,43 +78,11 @@ fn with_entry(players: u8, most: u32, entry: u32, vector: u32) -> u32
     with_entry(players - 1, most / 16, entry / 16, vector / 16) * 16 + low
 }
 
-// What a group is held to at a state: its highest choice in the game below, and the highest vector that is left.
-#[derive(Clone, Copy)]
-struct Held {
-    players: u8,
-    choice: u32,
-    vector: u32,
-}
-
-impl Held {
-    fn at<G: Game>(game: &G, state: u8, group: u8) -> Held
-        ensures players { result.players ≡ (G.Game.meaning game.now).players }
-        ensures choice { result.choice ≡ highest (own (G.Game.meaning game.now) group state) 0 (G.Game.meaning game.now).players }
-        ensures vector { result.vector ≡ highest (left (G.Game.meaning game.now) group state) 0 (G.Game.meaning game.now).players }
-    {
-        let sides = Sides::at(game, state, group);
-        Held {
-            players: sides.players,
-            choice: sides.choice,
-            // The entry 0 counts as move 1 for each member.
-            vector: with_entry(sides.players, sides.choice, 0, sides.reply),
-        }
-    }
-}
-
-// Whether the state is there.
-fn is_state<G: Game>(game: &G, state: u8) -> bool
-    ensures { result ≡ nat_lt state (G.Game.meaning game.now).states }
-{
-    let (states, _) = game.states();
-    (state as u16) < states
-}
-
 // Whether the number may be the group's entry for the state.
 fn judged<G: Game>(game: &G, state: u8, group: u8, choice: u32) -> Result<(), Refusal>
     ensures { Judged (G.Game.meaning game.now) group state choice result }
 {
-    if !is_state(game, state) {
+    if !game.has_state(state) {
         return Err(Refusal::NoState);
     }
     if is_choice(game, state, group, choice) {
@@ -151,7 +101,7 @@ fn at_first<G: Game>(game: &G, group: u8) -> (u8, Entries)
 {
     let players = game.players();
     (
-        only_present(players, group),
+        group % (1 << players),
         Entries::same(all_first(players, group)),
     )
 }
@@ -220,13 +170,21 @@ impl<G: Game> Game for Binding<G> {
         self.game.labels(state)
     }
 
+    #[tactic(auto, using(crate::proofs::Replaced::left_placed))]
     fn next(&self, state: u8, vector: u32) -> Option<u8> {
-        let held = Held::at(&self.game, state, self.group);
-        if is_state(&self.game, state) && is_under(held.players, held.vector, vector) {
-            let entry = self.entries.choices[state as usize];
-            self.game.next(state, with_entry(held.players, held.choice, entry, vector))
-        } else {
-            None
+        if !self.game.has_state(state) {
+            return None;
         }
+        let sides = Sides::at(&self.game, state, self.group);
+        // The entry 0 counts as move 1 for each member.
+        let most = with_entry(sides.players, sides.choice, 0, sides.reply);
+        if !is_under(sides.players, most, vector) {
+            return None;
+        }
+        let entry = self.entries.choices[state as usize];
+        self.game.next(
+            state,
+            with_entry(sides.players, sides.choice, entry, vector),
+        )
     }
 }

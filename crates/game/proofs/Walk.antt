@@ -85,28 +85,6 @@ unfolding highest
 highest_below d a zero h = omega arith
 highest_below d a (suc n) h = omega (arith, highest_below d (suc a) n h, h (suc a), pow-succ' 16 n)
 
-pub lowest_below : (n h : ℕ) → lowest n h < 16 ^ n
-unfolding lowest least
-lowest_below zero h = omega arith
-lowest_below (suc n) h = omega (arith, lowest_below n (h / 16), pow-succ' 16 n)
-
--- None, or a number of n digits
-abbrev pub Fits : ℕ → Option ℕ → Type 0
-Fits n None = Unit {0}
-Fits n (Some v) = v < 16 ^ n
-
-pub following_below : (n h v : ℕ) → v < 16 ^ n → Fits n (following n h v)
-unfolding following lift least
-following_below zero h v l = tt
-following_below (suc n) h v l =
-    cond_both (ltb (v % 16) (h % 16)) (Some (v + 1)) (lift (h % 16) (following n (h / 16) (v / 16))) (Fits (suc n))
-    (λ e. omega (arith, ltb-true (v % 16) (h % 16) e, pow-succ' 16 n))
-    (λ e. lifted (following n (h / 16) (v / 16)) (following_below n (h / 16) (v / 16) (omega (arith, pow-succ' 16 n))))
-  where
-    lifted : (o : Option ℕ) → Fits n o → Fits (suc n) (lift (h % 16) o)
-    lifted None k = tt
-    lifted (Some w) k = omega (arith, pow-succ' 16 n)
-
 pub highest_more : (d : ℕ → ℕ) (a p : ℕ) → 0 < a → a ≤ p → highest d (a - 1) (p - (a - 1)) ≡ highest d a (p - a) * 16 + d a
 unfolding highest
 highest_more d a p l k =

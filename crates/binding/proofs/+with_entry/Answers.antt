@@ -6,8 +6,8 @@ use Rattle.binding.proofs.+with_entry.Goals as goal
 pub returns-then-players-eq0 : goal.returns-then-players-eq0
 returns-then-players-eq0 t c = placed_none c.args.players c.args.most c.args.entry c.args.vector (omega arith)
 
-room : (t : ℕ) (c : goal.After-with_entry t) → (c.with_entry.result < 2 ^ 20) × (c.bound_move-low.result ≤ 15)
-room t c = placed_room c.args.players c.args.most c.args.entry c.args.vector c.with_entry.result c.bound_move-low.result c.if-players-eq0.false c.requires c.with_entry.ensures c.bound_move-low.ensures
+room : (t : ℕ) (c : goal.After-with_entry t) → (c.with_entry.result < 2 ^ 28) × (c.bound_move-low.result ≤ 15)
+room t c = placed_room c.args.players c.args.most c.args.entry c.args.vector c.with_entry.result c.bound_move-low.result c.ranges.most.fits c.ranges.vector.fits c.with_entry.ensures c.bound_move-low.ensures
 
 pub overflow_mul-result : goal.overflow_mul-result
 overflow_mul-result t c = omega (arith, (room t c).0)
