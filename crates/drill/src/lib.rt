@@ -3,17 +3,23 @@
 
 ghost use Rattle.std.specs.Prelude.{◌≡◌, ℕ, ◌+◌, ◌-◌, ◌*◌, ◌/◌, ◌%◌, ◌^◌, ◌<◌, ◌≤◌, cond, Ok, Err};
 ghost use Rattle.refusal.specs.declared.Refusal.TheVariants.{NoLimit};
-ghost use Rattle.drill.specs.Meaning.{Limit, drill, lead as lead_of, most as most_of};
+ghost use Rattle.drill.specs.Meaning.{Limit, drill, answered as answered_of, given_up as given_up_of, lead as lead_of, most as most_of};
 ghost use Rattle.drill.specs.Limited.{drill_limits};
 
 use game::{Game, is_under};
 use refusal::Refusal;
 
+// The gateway's first move: it sends nothing.
+const HOLD: u32 = 1;
+
+// The line's second move: it loses nothing.
+const CARRY: u32 = 2;
+
 // The drill of a limit: the tries are states 0 to the limit, then come answered and given up.
 #[derive(Drop)]
 pub struct Drill {
     limit: u8,
-    ghost ok: { (1 ≤ limit) × (limit ≤ 253) },
+    ghost in_range: { Limit limit },
 }
 
 impl Drill {
@@ -21,10 +27,24 @@ impl Drill {
     pub fn new(limit: u8) -> Result<Drill, Refusal>
         ensures { elim result [ Ok d ↦ Limit limit × (d.limit ≡ limit) | Err e ↦ (Limit limit → ⊥) × (e ≡ NoLimit) ] }
     {
-        if limit < 1 || limit > 253 {
-            return Err(Refusal::NoLimit);
+        match limit {
+            1..=253 => Ok(Drill { limit }),
+            _ => Err(Refusal::NoLimit),
         }
-        Ok(Drill { limit })
+    }
+
+    // The state after the tries in which the message is answered.
+    fn answered(&self) -> u8
+        ensures { result ≡ answered_of self.now.limit }
+    {
+        self.limit + 1
+    }
+
+    // The state after the tries in which it is given up.
+    fn given_up(&self) -> u8
+        ensures { result ≡ given_up_of self.now.limit }
+    {
+        self.limit + 2
     }
 
     // The highest vector of a state.
@@ -40,14 +60,14 @@ impl Drill {
     {
         let gateway = vector % 16;
         let line = vector / 16 % 16;
-        if state > self.limit || gateway == 1 {
+        if state > self.limit || gateway == HOLD {
             state
-        } else if line == 2 {
-            self.limit + 1
+        } else if line == CARRY {
+            self.answered()
         } else if state < self.limit {
             state + 1
         } else {
-            self.limit + 2
+            self.given_up()
         }
     }
 }
@@ -55,7 +75,7 @@ impl Drill {
 impl Game for Drill {
     ghost meaning = { λ d. drill d.limit };
 
-    ghost limits = { λ d. drill_limits d.limit d.ok.1 };
+    ghost limits = { λ d. drill_limits d.limit d.in_range.1 };
 
     fn players(&self) -> u8 {
         2
@@ -66,27 +86,26 @@ impl Game for Drill {
     }
 
     fn moves(&self, player: u8, state: u8) -> u8 {
-        if player < 1 || player > 2 || state > self.limit + 2 {
-            0
-        } else if state <= self.limit {
-            2
-        } else {
-            1
+        match player {
+            1 | 2 if state <= self.limit => 2,
+            1 | 2 if state <= self.given_up() => 1,
+            _ => 0,
         }
     }
 
     fn labels(&self, state: u8) -> u16 {
-        if state == self.limit + 1 {
+        if state == self.answered() {
             0x100
-        } else if state == self.limit + 2 {
+        } else if state == self.given_up() {
             0x001
         } else {
             0
         }
     }
 
+    #[tactic(auto, using(crate::proofs::Vectors::most_is))]
     fn next(&self, state: u8, vector: u32) -> Option<u8> {
-        if state > self.limit + 2 || !is_under(2, self.most(state), vector) {
+        if state > self.given_up() || !is_under(2, self.most(state), vector) {
             return None;
         }
         Some(self.lead(state, vector))

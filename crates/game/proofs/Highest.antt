@@ -1,5 +1,5 @@
 -- One player more in the highest numbers of a state's two sides.
-use Rattle.std.proofs.Common.{◌≡◌, ℕ, ◌+◌, ◌-◌, ◌*◌, ◌^◌, ◌<◌, ◌≤◌, true, false, sym, refl, ◌∙◌, arith, lit≤}
+use Rattle.std.proofs.Common.{◌≡◌, ℕ, ◌+◌, ◌-◌, ◌*◌, ◌^◌, ◌<◌, ◌≤◌, true, false, sym, refl, ap, ◌∙◌, arith, lit≤}
 use native.Mathlib.Nat.{pow-le-pow_right}
 use Rattle.std.proofs.lemmas.Bool.{cond-true, cond-false}
 use Rattle.game.specs.Structure.{Structure, Limits}
@@ -45,3 +45,10 @@ module _ {m : Structure} (L : Limits m) {A q a p x y n : ℕ} (e : p ≡ m.playe
     choice = omega (arith, highest_turn (own m A q) a p x 0 (omega arith) b h.choice (sym (cond-false (member a A) (m.moves a q) 0 i)));
     reply = highest_turn (other m A q) a p y n (omega arith) b h.reply (f ∙ sym (cond-false (member a A) 0 (m.moves a q) i));
   }
+
+-- the sides of all players
+pub all_passed : {m : Structure} {A q a p x y : ℕ} → p ≡ m.players → a ≡ 0 → Passed m A q a p x y → (x ≡ highest (own m A q) 0 m.players) × (y ≡ highest (other m A q) 0 m.players)
+all_passed {m} {A} {q} {a} {p} e z h = (h.choice ∙ whole (own m A q), h.reply ∙ whole (other m A q))
+  where
+    whole : (d : ℕ → ℕ) → highest d a (p - a) ≡ highest d 0 m.players
+    whole d = let s : p - a ≡ m.players = omega arith in ap (λ k. highest d k (p - a)) z ∙ ap (highest d 0) s

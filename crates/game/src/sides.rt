@@ -54,7 +54,7 @@ impl Sides {
 fn allows(limit: u32, digit: u32) -> bool
     ensures { result ≡ (nat_le (min 1 limit) digit && nat_le digit limit) }
 {
-    limit.min(1) <= digit && digit <= limit
+    (limit.min(1)..=limit).contains(&digit)
 }
 
 // Whether the number has so many digits in base 16, each 0 where `most` has 0 and from 1 to that digit elsewhere.

@@ -1,6 +1,6 @@
 use Rattle.std.proofs.Common.{◌≡◌, ℕ, ◌-◌, sym, ap, ◌∙◌, arith}
 use Rattle.game.specs.Lists.{own, other, highest}
-use Rattle.game.proofs.Highest.{highest_none, rooms, own_turn, other_turn}
+use Rattle.game.proofs.Highest.{highest_none, rooms, own_turn, other_turn, all_passed}
 use Rattle.game.proofs.Division.{divided}
 use Rattle.game.proofs.sides.Sides.at.Goals as goal
 use Rattle.game.proofs.sides.Sides.at.Goals.{then-is_member, else-is_member}
@@ -35,15 +35,5 @@ loop-player-preserved g c =
 
 pub returns : goal.returns
 returns g c =
-    let m = g.G.Game.meaning c.args.game.now in
-    let p = c.players-players.result in
-    let all : (d : ℕ → ℕ) → highest d c.loop-player.player (p - c.loop-player.player) ≡ highest d 0 m.players = λ d. ended d c.loop-player.player p m.players (omega arith) c.players-players.ensures in
-    record {
-      players = c.players-players.ensures;
-      choice = c.loop-player.invariant.choice ∙ all (own m c.args.group c.args.state);
-      reply = c.loop-player.invariant.reply ∙ all (other m c.args.group c.args.state);
-      divided = divided m c.args.group c.args.state (g.G.Game.limits c.args.game.now);
-    }
-  where
-    ended : (d : ℕ → ℕ) (a p q : ℕ) → a ≡ 0 → p ≡ q → highest d a (p - a) ≡ highest d 0 q
-    ended d a p q e f = let h : p - a ≡ q = omega arith in ap (λ x. highest d x (p - a)) e ∙ ap (highest d 0) h
+    let w = all_passed c.players-players.ensures (omega arith) c.loop-player.invariant in
+    record { players = c.players-players.ensures; choice = w.0; reply = w.1; divided = divided (g.G.Game.meaning c.args.game.now) c.args.group c.args.state (g.G.Game.limits c.args.game.now) }
