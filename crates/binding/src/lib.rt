@@ -44,7 +44,8 @@ pub struct Binding<G> {
     entries: Entries,
 }
 
-// Move 1 for each member of the group, four bits a player.
+// Move 1 for each member of the group, four bits a player. The recursion takes any number of players; a loop's sum would need a bound on them.
+#[tactic(auto, using(crate::proofs::Firsts::first_none, crate::proofs::Firsts::first_more, crate::proofs::Firsts::first_room))]
 fn all_first(players: u8, group: u8) -> u32
     ensures { result ≡ first_moves players group }
 {
@@ -60,7 +61,7 @@ fn bound_move(limit: u32, entry: u32, played: u32) -> u32
 {
     if limit == 0 {
         played
-    } else if 1 <= entry && entry <= limit {
+    } else if (1..=limit).contains(&entry) {
         entry
     } else {
         1
@@ -68,6 +69,7 @@ fn bound_move(limit: u32, entry: u32, played: u32) -> u32
 }
 
 // The vector with the entry's moves in the members' places.
+#[tactic(auto, using(crate::proofs::Replaced::placed_none, crate::proofs::Replaced::placed_more, crate::proofs::Replaced::placed_room))]
 fn with_entry(players: u8, most: u32, entry: u32, vector: u32) -> u32
     ensures { result ≡ placed players most entry vector }
 {
