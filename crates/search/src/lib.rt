@@ -2,9 +2,10 @@
 #![tactic(auto)]
 
 ghost use Rattle.std.specs.Prelude.{◌≡◌, ◌+◌, ◌^◌, ◌<◌};
-ghost use Rattle.game.specs.Lists.{own, highest as highest_of, lowest as lowest_of};
+ghost use Rattle.game.specs.Lists.{own, choices as choices_of, replies as replies_of, highest as highest_of, lowest as lowest_of};
 ghost use Rattle.game.specs.Serving.{set_of, within, first_serving, all_answered};
 ghost use Rattle.game.specs.Reading.{Serving, Answering};
+ghost use Rattle.search.specs.Left.{numbers_left, Short};
 
 mod numbers;
 
@@ -22,14 +23,27 @@ fn leads_in<G: Game>(game: &G, state: u8, choice: u32, reply: u32, inside: &[boo
         .is_some_and(|t| inside[t as usize])
 }
 
+// The choices of the group at the state, and the replies to each.
+fn choices_and_replies<G: Game>(game: &G, state: u8, group: u8) -> (Numbers, Numbers)
+    ensures choices { numbers_left result.0 ≡ choices_of (G.Game.meaning game.now) group state }
+    ensures replies { numbers_left result.1 ≡ replies_of (G.Game.meaning game.now) group state }
+    ensures short_choices { Short (numbers_left result.0) }
+    ensures short_replies { Short (numbers_left result.1) }
+{
+    let sides = Sides::at(game, state, group);
+    (
+        Numbers::under(sides.players, sides.choice),
+        Numbers::under(sides.players, sides.reply),
+    )
+}
+
 // The smallest choice of the group all of whose replies lead into the set.
+#[tactic(auto, unfolding(game::specs::Serving::first_serving, game::specs::Serving::serves, game::specs::Serving::leads))]
 pub fn serving<G: Game>(game: &G, state: u8, group: u8, inside: &[bool; 256]) -> Option<u32>
     ensures value { result ≡ first_serving (G.Game.meaning game.now) group state (set_of inside.now) }
     ensures plain { state < (G.Game.meaning game.now).states → Serving (G.Game.meaning game.now) group state (set_of inside.now) result }
 {
-    let sides = Sides::at(game, state, group);
-    let choices = Numbers::under(sides.players, sides.choice);
-    let replies = Numbers::under(sides.players, sides.reply);
+    let (choices, replies) = choices_and_replies(game, state, group);
     'choices: for choice in choices {
         for reply in replies {
             if !leads_in(game, state, choice, reply, inside) {
@@ -50,13 +64,12 @@ pub fn first_choice<G: Game>(game: &G, state: u8, group: u8) -> u32
 }
 
 // Whether every choice of the group has a reply that leads into the set.
+#[tactic(auto, unfolding(game::specs::Serving::all_answered, game::specs::Serving::answers, game::specs::Serving::leads))]
 pub fn answering<G: Game>(game: &G, state: u8, group: u8, inside: &[bool; 256]) -> bool
     ensures value { result ≡ all_answered (G.Game.meaning game.now) group state (set_of inside.now) }
     ensures plain { state < (G.Game.meaning game.now).states → Answering (G.Game.meaning game.now) group state (set_of inside.now) result }
 {
-    let sides = Sides::at(game, state, group);
-    let choices = Numbers::under(sides.players, sides.choice);
-    let replies = Numbers::under(sides.players, sides.reply);
+    let (choices, replies) = choices_and_replies(game, state, group);
     'choices: for choice in choices {
         for reply in replies {
             if leads_in(game, state, choice, reply, inside) {

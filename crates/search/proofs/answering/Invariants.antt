@@ -1,8 +1,7 @@
 use Rattle.std.proofs.Common.{◌≡◌}
 use Rattle.std.specs.List.{list_all, list_any}
 use Rattle.game.specs.Serving.{set_of, leads, answers, all_answered}
-use Rattle.search.specs.Left.{numbers_left}
-use Rattle.search.proofs.Loops.{Short}
+use Rattle.search.specs.Left.{numbers_left, Short}
 use Rattle.search.proofs.answering.Given as goal
 
 -- the choices that are left decide
