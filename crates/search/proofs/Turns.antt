@@ -26,20 +26,20 @@ unfolding following
 following_low zero h v z l = absurd (z refl)
 following_low (suc n) h v z l = sym (cond-true _ _ _ (lt-ltb (v % 16) (h % 16) l))
 
-pub following_high : (n h v : ℕ) {o : Option ℕ} → (n ≡ 0 → ⊥) → h % 16 ≤ v % 16 → o ≡ following (n - 1) (h / 16) (v / 16) → lift (h % 16) o ≡ following n h v
+following_high : (n h v : ℕ) {o p : Option ℕ} → (n ≡ 0 → ⊥) → h % 16 ≤ v % 16 → o ≡ following (n - 1) (h / 16) (v / 16) → o ≡ p → lift (h % 16) p ≡ following n h v
 unfolding following
-following_high zero h v z l e = absurd (z refl)
-following_high (suc n) h v z l e =
+following_high zero h v z l e f = absurd (z refl)
+following_high (suc n) h v z l e f =
     let i : suc n - 1 ≡ n = omega arith in
-    ap (lift (h % 16)) (e ∙ ap (λ m. following m (h / 16) (v / 16)) i) ∙ sym (cond-false _ _ _ (le-ltb (v % 16) (h % 16) l))
+    ap (lift (h % 16)) (sym f ∙ e ∙ ap (λ m. following m (h / 16) (v / 16)) i) ∙ sym (cond-false _ _ _ (le-ltb (v % 16) (h % 16) l))
 
-pub lift_none : (d : ℕ) → None ≡ lift d None
+pub following_last : (n h v : ℕ) (o : Option ℕ) → (n ≡ 0 → ⊥) → h % 16 ≤ v % 16 → o ≡ following (n - 1) (h / 16) (v / 16) → o ≡ None → None ≡ following n h v
 unfolding lift
-lift_none d = refl
+following_last n h v o z l e f = following_high n h v z l e f
 
-pub lift_some : (d w k : ℕ) → k ≡ min d 1 → Some (w * 16 + k) ≡ lift d (Some w)
+pub following_more : (n h v : ℕ) (o : Option ℕ) (w k : ℕ) → (n ≡ 0 → ⊥) → h % 16 ≤ v % 16 → o ≡ following (n - 1) (h / 16) (v / 16) → o ≡ Some w → k ≡ min (h % 16) 1 → Some (w * 16 + k) ≡ following n h v
 unfolding lift least
-lift_some d w k e = ap Some (omega arith)
+following_more n h v o w k z l e f i = ap Some (omega arith) ∙ following_high n h v z l e f
 
 -- length
 lowest_fits : (k n h : ℕ) → h < 16 ^ k → lowest n h < 16 ^ k

@@ -12,6 +12,7 @@ fn first_move(moves: u32) -> u32
 }
 
 // The lowest number under the highest one.
+#[tactic(auto, using(crate::proofs::Turns::lowest_none, crate::proofs::Turns::lowest_turn, crate::proofs::Turns::lowest_room))]
 pub fn lowest(players: u8, highest: u32) -> u32
     ensures { result ≡ lowest_of players highest }
 {
@@ -22,6 +23,7 @@ pub fn lowest(players: u8, highest: u32) -> u32
 }
 
 // The next number under the highest one: the digits that are at their limits go back to the lowest, and the one after them goes up.
+#[tactic(auto, using(crate::proofs::Turns::following_none, crate::proofs::Turns::following_low, crate::proofs::Turns::following_last, crate::proofs::Turns::following_more, crate::proofs::Turns::following_room))]
 fn following(players: u8, highest: u32, number: u32) -> Option<u32>
     ensures { result ≡ following_of players highest number }
 {
@@ -63,6 +65,7 @@ impl Iterator for Numbers {
 
     ghost remaining = { item_count numbers_left };
 
+    #[tactic(auto, using(crate::proofs::Turns::left_none, crate::proofs::Turns::left_some, crate::proofs::Turns::progress))]
     fn next(&mut self) -> Option<u32> {
         let number = self.next?;
         self.next = following(self.players, self.highest, number);
