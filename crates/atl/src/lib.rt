@@ -2,8 +2,8 @@
 #![tactic(auto)]
 
 ghost use Rattle.std.specs.Prelude.{◌≡◌, ◌+◌};
-ghost use Rattle.atl.specs.Kinds.{kind_of};
-ghost use Rattle.atl.specs.Rounds.{shown as shown_as};
+ghost use Rattle.atl.specs.Kinds.{numbered_kind};
+ghost use Rattle.atl.specs.Rounds.{shown};
 ghost use Rattle.atl.specs.Strategy.{EveryStrategyRuns};
 ghost use Rattle.atl.specs.Playbook.{EveryFirstMove};
 ghost use Rattle.atl.specs.Settling.{Enough, EveryRuleSettles};
@@ -55,31 +55,37 @@ pub struct Shown {
     pub number: u16,
 }
 
-impl Kind {
+// A number that no kind has.
+#[derive(Clone, Copy, PartialEq, Eq, Debug)]
+pub struct UnknownKind(pub u8);
+
+impl TryFrom<u8> for Kind {
+    type Error = UnknownKind;
+
+    ghost try_from_gives = { λ number r. r ≡ numbered_kind number };
+
     // The kind of a number from 0 to 8.
-    pub fn numbered(number: u8) -> Option<Kind>
-        ensures { result ≡ kind_of number }
-    {
+    fn try_from(number: u8) -> Result<Self, UnknownKind> {
         match number {
-            0 => Some(Kind::Label),
-            1 => Some(Kind::Not),
-            2 => Some(Kind::Or),
-            3 => Some(Kind::Strategic(Modality::Can, Temporal::Next)),
-            4 => Some(Kind::Strategic(Modality::Can, Temporal::Until)),
-            5 => Some(Kind::Strategic(Modality::Can, Temporal::Unless)),
-            6 => Some(Kind::Strategic(Modality::Despite, Temporal::Next)),
-            7 => Some(Kind::Strategic(Modality::Despite, Temporal::Until)),
-            8 => Some(Kind::Strategic(Modality::Despite, Temporal::Unless)),
-            _ => None,
+            0 => Ok(Kind::Label),
+            1 => Ok(Kind::Not),
+            2 => Ok(Kind::Or),
+            3 => Ok(Kind::Strategic(Modality::Can, Temporal::Next)),
+            4 => Ok(Kind::Strategic(Modality::Can, Temporal::Until)),
+            5 => Ok(Kind::Strategic(Modality::Can, Temporal::Unless)),
+            6 => Ok(Kind::Strategic(Modality::Despite, Temporal::Next)),
+            7 => Ok(Kind::Strategic(Modality::Despite, Temporal::Until)),
+            8 => Ok(Kind::Strategic(Modality::Despite, Temporal::Unless)),
+            _ => Err(UnknownKind(number)),
         }
     }
 }
 
-impl Mark {
-    pub fn shown(self) -> Shown
-        ensures { result ≡ shown_as self }
-    {
-        match self {
+impl From<Mark> for Shown {
+    ghost from_gives = { λ mark s. s ≡ shown mark };
+
+    fn from(mark: Mark) -> Shown {
+        match mark {
             Mark::Open => Shown {
                 verdict: Verdict::Open,
                 number: 256,
