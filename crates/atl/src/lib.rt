@@ -3,7 +3,7 @@
 
 ghost use Rattle.std.specs.Prelude.{◌≡◌, ◌+◌};
 ghost use Rattle.atl.specs.Kinds.{numbered_kind};
-ghost use Rattle.atl.specs.Rounds.{shown};
+ghost use Rattle.atl.specs.Rounds.{is_open, is_yes, shown};
 ghost use Rattle.atl.specs.Strategy.{EveryStrategyRuns};
 ghost use Rattle.atl.specs.Playbook.{EveryFirstMove};
 ghost use Rattle.atl.specs.Settling.{Enough, EveryRuleSettles};
@@ -78,6 +78,20 @@ impl TryFrom<u8> for Kind {
             8 => Ok(Kind::Strategic(Modality::Despite, Temporal::Unless)),
             _ => Err(UnknownKind(number)),
         }
+    }
+}
+
+impl Mark {
+    pub fn is_open(self) -> bool
+        ensures { result ≡ is_open self }
+    {
+        matches!(self, Mark::Open)
+    }
+
+    pub fn is_yes(self) -> bool
+        ensures { result ≡ is_yes self }
+    {
+        matches!(self, Mark::Yes(_))
     }
 }
 
