@@ -11,13 +11,14 @@ use Rattle.atl.specs.declared.Mark.{Mark}
 use Rattle.atl.specs.declared.Mark.TheVariants.{Open}
 use Rattle.atl.specs.Rounds.{is_yes, shown, newly, tally, closed}
 use Rattle.atl.proofs.Quiet.{quiet_comes}
+use Rattle.table.specs.declared.types.Parts.{Parts}
 use Rattle.table.specs.declared.types.Rule.{Rule}
 use Rattle.table.specs.declared.types.Table.{Table}
 use Rattle.table.specs.Parts.{uses_r, uses_s, waits}
 use Rattle.table.specs.Standing.{Standing, Stack, found, marks_of, settled_of, yes_states, settled, one_more, advanced}
 use Rattle.table.specs.Answers.{taken, number_if, fresh, pushed_if, write_answer, write_after, erase_answer, erase_after, round_of, round_answer, advanced_if, round_after, ask_of, ask_answer, tell_of, tell_answer}
 use Rattle.table.specs.Shows.{rule_at, condition_of, Right, Orderly, AllRight, Shows, Does, Few}
-use Rattle.table.specs.Steps.{rounds_in, is_settled, ask_table, tell_table, fresh_rule, Wrote, erase_table, Erased, settled_in, due_rule, due_table, YesArray, Worked, Stepped}
+use Rattle.table.specs.Steps.{rounds_in, is_settled, ask_table, tell_table, fresh_rule, Wrote, erase_table, Erased, settled_in, due_rule, due_table, YesArray, PartsOf, Worked, Stepped}
 use Rattle.table.proofs.Taking.{taken_tells, past, err_ok, err_err}
 use Rattle.table.proofs.Marking.{open_first}
 use Rattle.table.proofs.Stacks.{Found, find, missing, length_advanced}
@@ -113,24 +114,20 @@ is_settled_of (suc k) true z = refl
 is_settled_of (suc k) false z = refl
 
 -- what a round that is due tells of the table
-pub record Tested (t : Table) (n : ℕ) (parts : ℕ × ℕ) : Type 0 where
+pub record Tested (t : Table) (n : ℕ) : Type 0 where
   pub up : ltb n t.count ≡ true
+  pub low : n < t.count
   pub ready : waits (settled_in t) (rule_at t.rules n).kind (rule_at t.rules n).r (rule_at t.rules n).s ≡ false
   pub unsettled : is_settled (rule_at t.rules n).condition ≡ false
-  pub parts_are : ◌≡◌ {A = ℕ × ℕ} parts ((rule_at t.rules n).r, (rule_at t.rules n).s)
 
-pub tested : (t : Table) (n : ℕ) (parts : ℕ × ℕ) → due_table t n ≡ Ok parts → Tested t n parts
-tested t n parts h = ⊎_elim
+pub tested : (t : Table) (n : ℕ) → due_table t n ≡ Ok tt → Tested t n
+tested t n h = ⊎_elim
     (λ (b : ltb n t.count ≡ true).
     let w = waits (settled_in t) (rule_at t.rules n).kind (rule_at t.rules n).r (rule_at t.rules n).s in
-    let q = past w PartUnsettled _ parts (sym (cond-true _ _ (Err NoRule) b) ∙ h) in
-    let r = past (is_settled (rule_at t.rules n).condition) AlreadySettled (Ok ((rule_at t.rules n).r, (rule_at t.rules n).s)) parts q.1 in
-    record { up = b; ready = q.0; unsettled = r.0; parts_are = sym (ok_ok r.1) })
+    let q = past w PartUnsettled _ tt (sym (cond-true _ _ (Err NoRule) b) ∙ h) in
+    record { up = b; low = ltb-true n t.count b; ready = q.0; unsettled = (past (is_settled (rule_at t.rules n).condition) AlreadySettled (Ok tt) tt q.1).0 })
     (λ (b : ltb n t.count ≡ false). err_ok (sym (cond-false _ (due_rule (settled_in t) (rule_at t.rules n)) (Err NoRule) b) ∙ h))
     (cases_Bool (ltb n t.count))
-  where
-    ok_ok : {a b : ℕ × ℕ} → ◌≡◌ {A = Result (ℕ × ℕ) Refusal} (Ok a) (Ok b) → a ≡ b
-    ok_ok e = cc
 
 module _ (m : Structure) (t : Table) (st : Stack) (p : Shows m st t) where
   -- the rule n that stands
@@ -217,7 +214,7 @@ module _ (m : Structure) (t : Table) (st : Stack) (p : Shows m st t) where
   abbrev count_of : Standing → Stack → ℕ
   count_of x below = tally (newly (marks_of m x (yes_states m below)) x.rounds) m.states
 
-  refused_by : (w d : Bool) (a : ℕ × ℕ) (c : ℕ) (e : Refusal) → cond w (Err PartUnsettled) (cond d (Err AlreadySettled) (Ok a)) ≡ Err e → cond w (Err PartUnsettled) (cond d (Err AlreadySettled) (Ok c)) ≡ Err e
+  refused_by : (w d : Bool) (a : Unit {0}) (c : ℕ) (e : Refusal) → cond w (Err PartUnsettled) (cond d (Err AlreadySettled) (Ok a)) ≡ Err e → cond w (Err PartUnsettled) (cond d (Err AlreadySettled) (Ok c)) ≡ Err e
   refused_by true d a c e h = err_err h
   refused_by false true a c e h = err_err h
   refused_by false false a c e h = err_ok (sym h)
@@ -230,7 +227,7 @@ module _ (m : Structure) (t : Table) (st : Stack) (p : Shows m st t) where
   round_refused n e h = ⊎_elim
       (λ (b : ltb n t.count ≡ true).
       let f = at n b in
-      ap (round_of m) f.is ∙ round_tests n f ∙ refused_by (waits (settled_in t) (rule_at t.rules n).kind (rule_at t.rules n).r (rule_at t.rules n).s) (is_settled (rule_at t.rules n).condition) ((rule_at t.rules n).r, (rule_at t.rules n).s) (count_of f.rule f.below) e (sym (cond-true _ _ (Err NoRule) b) ∙ h))
+      ap (round_of m) f.is ∙ round_tests n f ∙ refused_by (waits (settled_in t) (rule_at t.rules n).kind (rule_at t.rules n).r (rule_at t.rules n).s) (is_settled (rule_at t.rules n).condition) tt (count_of f.rule f.below) e (sym (cond-true _ _ (Err NoRule) b) ∙ h))
       (λ (b : ltb n t.count ≡ false). ap (round_of m) (gone n b) ∙ err_err (sym (cond-false _ (due_rule (settled_in t) (rule_at t.rules n)) (Err NoRule) b) ∙ h))
       (cases_Bool (ltb n t.count))
 
@@ -241,8 +238,8 @@ module _ (m : Structure) (t : Table) (st : Stack) (p : Shows m st t) where
     pub unsettled : settled_of m at_n.rule (yes_states m at_n.below) ≡ false
     pub answer : round_answer m n st ≡ Ok (count_of at_n.rule at_n.below)
 
-  pub due : (n : ℕ) (parts : ℕ × ℕ) → Tested t n parts → Due n
-  due n parts d =
+  pub due : (n : ℕ) → Tested t n → Due n
+  due n d =
       let f = at n d.up in
       record {
         at_n = f;
@@ -255,17 +252,17 @@ module _ (m : Structure) (t : Table) (st : Stack) (p : Shows m st t) where
     abbrev f : At n
     f = d.at_n
 
-    is_r : uses_r f.rule.kind ≡ true → (q : ℕ) → q < m.states → set_of s.yes_r q ≡ yes_states m f.below f.rule.r q
-    is_r u = part_states n f s.yes_r (rule_at t.rules n).r f.rule.r f.right.r (omega (arith, f.orderly.part_r u, f.height)) L.many s.is_r
+    is_r : uses_r f.rule.kind ≡ true → (q : ℕ) → q < m.states → set_of s.parts.r q ≡ yes_states m f.below f.rule.r q
+    is_r u = part_states n f s.parts.r (rule_at t.rules n).r f.rule.r f.right.r (omega (arith, f.orderly.part_r u, f.height)) L.many s.parts_are.r
 
-    is_s : uses_s f.rule.kind ≡ true → (q : ℕ) → q < m.states → set_of s.yes_s q ≡ yes_states m f.below f.rule.s q
-    is_s u = part_states n f s.yes_s (rule_at t.rules n).s f.rule.s f.right.s (omega (arith, f.orderly.part_s u, f.height)) L.many s.is_s
+    is_s : uses_s f.rule.kind ≡ true → (q : ℕ) → q < m.states → set_of s.parts.s q ≡ yes_states m f.below f.rule.s q
+    is_s u = part_states n f s.parts.s (rule_at t.rules n).s f.rule.s f.right.s (omega (arith, f.orderly.part_s u, f.height)) L.many s.parts_are.s
 
-    worked : Worked m (rule_at t.rules n) s.yes_r s.yes_s (rule_at t'.rules n) c
-    worked = s.worked f.right.long (small m L f.below f.rule (rule_at t.rules n) f.orderly f.right d.ready d.unsettled s.yes_r s.yes_s is_r is_s)
+    worked : Worked m (rule_at t.rules n) s.parts (rule_at t'.rules n) c
+    worked = s.worked f.right.long (small m L f.below f.rule (rule_at t.rules n) f.orderly f.right d.ready d.unsettled s.parts is_r is_s)
 
     pub counted : c ≡ count_of f.rule f.below
-    counted = counts_is m L f.below f.rule (rule_at t.rules n) f.orderly f.right d.ready d.unsettled s.yes_r s.yes_s is_r is_s (rule_at t'.rules n) c worked
+    counted = counts_is m L f.below f.rule (rule_at t.rules n) f.orderly f.right d.ready d.unsettled s.parts is_r is_s (rule_at t'.rules n) c worked
 
     pub shows_next : Shows m (advanced n st) t'
     shows_next = record {
@@ -280,8 +277,8 @@ module _ (m : Structure) (t : Table) (st : Stack) (p : Shows m st t) where
         next x below e =
             let same : (f.rule, f.below) ≡ (x, below) = same_found (sym f.is ∙ e) in
             subst (λ (z : Standing × Stack). Orderly m z.1 (one_more z.0) × Right m z.1 (one_more z.0) (rule_at t'.rules n)) same (
-              orderly_next m L f.below f.rule (rule_at t.rules n) f.orderly f.right d.ready d.unsettled s.yes_r s.yes_s is_r is_s (rule_at t'.rules n) c worked,
-              right_next m L f.below f.rule (rule_at t.rules n) f.orderly f.right d.ready d.unsettled s.yes_r s.yes_s is_r is_s (rule_at t'.rules n) c worked,
+              orderly_next m L f.below f.rule (rule_at t.rules n) f.orderly f.right d.ready d.unsettled s.parts is_r is_s (rule_at t'.rules n) c worked,
+              right_next m L f.below f.rule (rule_at t.rules n) f.orderly f.right d.ready d.unsettled s.parts is_r is_s (rule_at t'.rules n) c worked,
             )
           where
             same_found : {a b : Standing × Stack} → ◌≡◌ {A = Option (Standing × Stack)} (Some a) (Some b) → a ≡ b
@@ -294,25 +291,22 @@ does_refused_round m t n e h = record {
   refused = λ x q. refl;
 }
 
-pub does_round : (m : Structure) → Limits m → (t t' : Table) (n c : ℕ) (parts : ℕ × ℕ) → Tested t n parts → (length t.rules ≡ 32 → Stepped m t t' n c) → Does m (round_answer m n) (round_after m n) t t' (Ok c)
-does_round m L t t' n c parts h s = record {
-  answers = λ st p. let d = due m t st p n parts h in ap Ok (counted m t st p L t' n c d (s p.long)) ∙ sym d.answer;
-  shows = λ st p. let d = due m t st p n parts h in subst (λ (a : Result ℕ Refusal). Shows m (advanced_if m a n st) t') (sym d.answer) (shows_next m t st p L t' n c d (s p.long));
+pub does_round : (m : Structure) → Limits m → (t t' : Table) (n c : ℕ) → Tested t n → (length t.rules ≡ 32 → Stepped m t t' n c) → Does m (round_answer m n) (round_after m n) t t' (Ok c)
+does_round m L t t' n c h s = record {
+  answers = λ st p. let d = due m t st p n h in ap Ok (counted m t st p L t' n c d (s p.long)) ∙ sym d.answer;
+  shows = λ st p. let d = due m t st p n h in subst (λ (a : Result ℕ Refusal). Shows m (advanced_if m a n st) t') (sym d.answer) (shows_next m t st p L t' n c d (s p.long));
   refused = λ x q. err_ok (sym q);
 }
 
--- what the code's step gives
-pub stepped : (m : Structure) (t t' : Table) (n c r s : ℕ) (y' : Rule) (ys zs : List Bool) → n < length t.rules → t'.count ≡ t.count → t'.rules ≡ set t.rules n y'
-    → r ≡ (rule_at t.rules n).r → s ≡ (rule_at t.rules n).s → YesArray t r ys → YesArray t s zs
-    → (length (rule_at t.rules n).marks ≡ 256 → rounds_in (rule_at t.rules n).condition < 65535 → Worked m (rule_at t.rules n) ys zs y' c) → Stepped m t t' n c
-stepped m t t' n c r s y' ys zs l ec er e_r e_s a b w =
+-- what the round of a rule does to the table
+pub stepped : (m : Structure) (t t' : Table) (n c : ℕ) (y' : Rule) (parts : Parts) → n < length t.rules → t'.count ≡ t.count → t'.rules ≡ set t.rules n y' → PartsOf t (rule_at t.rules n) parts
+    → (length (rule_at t.rules n).marks ≡ 256 → rounds_in (rule_at t.rules n).condition < 65535 → Worked m (rule_at t.rules n) parts y' c) → Stepped m t t' n c
+stepped m t t' n c y' parts l ec er are w =
     let e : rule_at t'.rules n ≡ y' = ap (λ (z : List Rule). rule_at z n) er ∙ same_rule t.rules n y' l in
     record {
       count = ec;
       rules = er ∙ ap (set t.rules n) (sym e);
-      yes_r = ys;
-      yes_s = zs;
-      is_r = subst (λ i. YesArray t i ys) e_r a;
-      is_s = subst (λ i. YesArray t i zs) e_s b;
-      worked = λ h k. subst (λ (y : Rule). Worked m (rule_at t.rules n) ys zs y c) (sym e) (w h k);
+      parts = parts;
+      parts_are = are;
+      worked = λ h k. subst (λ (y : Rule). Worked m (rule_at t.rules n) parts y c) (sym e) (w h k);
     }

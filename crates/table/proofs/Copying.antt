@@ -8,11 +8,13 @@ use Rattle.game.specs.Structure.{Structure, Limits}
 use Rattle.refusal.specs.declared.Refusal.{Refusal}
 use Rattle.refusal.specs.declared.Refusal.TheVariants.{NoRule, NoRoom}
 use Rattle.atl.specs.declared.Temporal.{Temporal}
+use Rattle.table.specs.declared.types.Parts.{Parts}
 use Rattle.table.specs.declared.types.Table.{Table}
 use Rattle.table.specs.Standing.{Stack}
 use Rattle.table.specs.Answers.{book_of, size_in, copy_of, copy_answer, four_bytes, book_bytes, written_in, buffer_of, buffer_after}
 use Rattle.table.specs.Shows.{rule_at, Shows}
-use Rattle.table.specs.Books.{choice_of, book_in, Choices}
+use Rattle.table.specs.Steps.{PartsOf}
+use Rattle.table.specs.Books.{choice_of, book_in}
 use Rattle.table.proofs.Calls.{At, at, gone}
 use Rattle.table.proofs.Books.{booked, book, book_is, choice_is}
 
@@ -62,10 +64,10 @@ module _ (m : Structure) (L : Limits m) (t : Table) (st : Stack) (p : Shows m st
     pub copied : (size : ℕ) → size ≡ 4 * m.states → place + 4 * m.states ≤ length xs → Ok size ≡ copy_answer m n place (length xs) st
     copied size e l = ap Ok e ∙ sym (cond-true _ _ _ (le-leb (place + 4 * m.states) (length xs) l)) ∙ answer_by up (Ok o) h
 
-    pub copied_buffer : (k : ℕ) (ys : List ℕ) → k ≡ 4 * m.states → place + 4 * m.states ≤ length xs → Choices m t n o ys → put_mid place k xs ys ≡ buffer_after m n place st xs
-    copied_buffer k ys e l c =
+    pub copied_buffer : (k : ℕ) (ys : List ℕ) → k ≡ 4 * m.states → place + 4 * m.states ≤ length xs → (parts : Parts) → PartsOf t (rule_at t.rules n) parts → ys ≡ book_bytes (choice_of m (rule_at t.rules n) parts o) m.states → put_mid place k xs ys ≡ buffer_after m n place st xs
+    copied_buffer k ys e l parts are c =
         ap₂ (λ (a b : List ℕ). take place xs ++ (a ++ b))
-        (c.bytes_are ∙ bytes_same (choice_of m (rule_at t.rules n) c.yes_r c.yes_s o) (book m L t st p n (at m t st p n up) o) m.states (choice_is m L t st p n (at m t st p n up) c.yes_r c.yes_s c.is_r c.is_s o h))
+        (c ∙ bytes_same (choice_of m (rule_at t.rules n) parts o) (book m L t st p n (at m t st p n up) o) m.states (choice_is m L t st p n (at m t st p n up) parts are o h))
         (dropped place k (place + 4 * m.states) xs (omega arith))
         ∙ sym (cond-true _ _ _ (le-leb (place + 4 * m.states) (length xs) l)) ∙ buffer_by up (Ok o) h
       where

@@ -45,7 +45,7 @@ by_fields m R S X q {c} {c'} {f} {f'} {A} {A'} {l} {l'} {x} {x'} ec ef eA el ex 
 module _ (m : Structure) (y : Rule) (sets : Sets) where
   -- what a pass marks depends on what write took and on the condition alone
   same_new : (y' : Rule) → Kept y y' → y'.condition ≡ y.condition → (q : ℕ) (x : Mark) → new_mark m y' sets q x ≡ new_mark m y sets q x
-  same_new y' k e q x = by_fields m (set_of sets.r) (set_of sets.s) (set_of sets.aim) q {x = x} e k.kind k.group k.r refl
+  same_new y' k e q x = by_fields m (set_of sets.parts.r) (set_of sets.parts.s) (set_of sets.aim) q {x = x} e k.kind k.group k.r refl
 
   pub passed_none : Passed m y sets 0 y 0
   passed_none = record { kept = kept_refl y; condition = refl; passed = λ q l. absurd (omega arith); rest = λ q l. refl; counts = refl }

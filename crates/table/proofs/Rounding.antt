@@ -1,5 +1,5 @@
 -- A round that is due takes a rule from the marks of its rounds so far to those of the next.
-use Rattle.std.proofs.Common.{◌≡◌, ℕ, zero, suc, ◌+◌, ◌<◌, ◌≤◌, Bool, true, false, cond, not, ◌&&◌, ◌||◌, eqb, List, get_or, refl, ap, ◌∙◌, subst, ap₂, inr, ⊎_elim, arith}
+use Rattle.std.proofs.Common.{◌≡◌, ℕ, zero, suc, ◌+◌, ◌<◌, ◌≤◌, Bool, true, false, cond, not, ◌&&◌, ◌||◌, eqb, get_or, refl, ap, ◌∙◌, subst, ap₂, inr, ⊎_elim, arith}
 use Rattle.std.proofs.lemmas.Bool.{cases_lt}
 use Rattle.game.specs.Structure.{Structure, Limits}
 use Rattle.game.specs.Serving.{set_of}
@@ -9,6 +9,7 @@ use Rattle.atl.specs.declared.Mark.TheVariants.{Open}
 use Rattle.atl.specs.Rounds.{is_open, tally, newly, settles, one_round, closed}
 use Rattle.atl.proofs.Quiet.{quiet_comes}
 use Rattle.atl.proofs.Steps.{local}
+use Rattle.table.specs.declared.types.Parts.{Parts}
 use Rattle.table.specs.declared.types.Rule.{Rule}
 use Rattle.table.specs.declared.types.Sets.{Sets}
 use Rattle.table.specs.Parts.{uses_r, uses_s, waits}
@@ -38,9 +39,9 @@ few_before m below x o u =
 
 module _ (m : Structure) (L : Limits m) (below : Stack) (x : Standing) (y : Rule) (o : Orderly m below x) (r : Right m below x y)
     (ready : waits (settled m below) x.kind x.r x.s ≡ false) (u : settled_of m x (yes_states m below) ≡ false)
-    (ys zs : List Bool)
-    (is_r : uses_r x.kind ≡ true → (q : ℕ) → q < m.states → set_of ys q ≡ yes_states m below x.r q)
-    (is_s : uses_s x.kind ≡ true → (q : ℕ) → q < m.states → set_of zs q ≡ yes_states m below x.s q) where
+    (parts : Parts)
+    (is_r : uses_r x.kind ≡ true → (q : ℕ) → q < m.states → set_of parts.r q ≡ yes_states m below x.r q)
+    (is_s : uses_s x.kind ≡ true → (q : ℕ) → q < m.states → set_of parts.s q ≡ yes_states m below x.s q) where
   abbrev M : ℕ → ℕ → Mark
   M = marks_of m x (yes_states m below)
 
@@ -56,25 +57,25 @@ module _ (m : Structure) (L : Limits m) (below : Stack) (x : Standing) (y : Rule
   pub small : rounds_in y.condition < 65535
   small = omega (arith, rounds_is, few_before m below x o u, L.many)
 
-  module _ (y' : Rule) (c : ℕ) (w : Worked m y ys zs y' c) where
+  module _ (y' : Rule) (c : ℕ) (w : Worked m y parts y' c) where
     abbrev sets : Sets
-    sets = record { r = ys; s = zs; aim = w.aim }
+    sets = record { parts = parts; aim = w.aim }
 
     aim_is : (t : ℕ) → t < m.states → set_of w.aim t ≡ aimed x.kind (M x.rounds t)
     aim_is t l = w.aims t (omega (arith, L.many)) ∙ ap₂ (λ (f : Kind) (v : Mark). aimed f v) r.kind (mark_is t l)
 
-    agrees : (q : ℕ) → q < m.states → Agrees m x.kind x.group x.r (yes_states m below x.r) (yes_states m below x.s) x.rounds q (set_of ys) (set_of zs) (set_of w.aim)
+    agrees : (q : ℕ) → q < m.states → Agrees m x.kind x.group x.r (yes_states m below x.r) (yes_states m below x.s) x.rounds q (set_of parts.r) (set_of parts.s) (set_of w.aim)
     agrees q l = record {
       at_r = λ b. is_r b q l;
       at_s = λ b. is_s b q l;
-      hold_r = λ b v. local m L v x.group q l (set_of ys) (yes_states m below x.r) (is_r b);
+      hold_r = λ b v. local m L v x.group q l (set_of parts.r) (yes_states m below x.r) (is_r b);
       hold_aim = λ v. local m L v x.group q l (set_of w.aim) (λ t. aimed x.kind (M x.rounds t)) aim_is;
     }
 
     new_is : (q : ℕ) → q < m.states → new_mark m y sets q (get_or y.marks q Open) ≡ M (suc x.rounds) q
     new_is q l =
-        by_fields m (set_of ys) (set_of zs) (set_of w.aim) q condition_is r.kind r.group r.r (mark_is q l)
-        ∙ one_step m x.kind x.group x.r m.states x.rounds q (yes_states m below x.r) (yes_states m below x.s) (set_of ys) (set_of zs) (set_of w.aim) (agrees q l) u
+        by_fields m (set_of parts.r) (set_of parts.s) (set_of w.aim) q condition_is r.kind r.group r.r (mark_is q l)
+        ∙ one_step m x.kind x.group x.r m.states x.rounds q (yes_states m below x.r) (yes_states m below x.s) (set_of parts.r) (set_of parts.s) (set_of w.aim) (agrees q l) u
 
     pub counts_is : c ≡ tally (newly M x.rounds) m.states
     counts_is = w.rounded.counts ∙ tally_same (gets_marked m y sets) (newly M x.rounds) m.states (λ q l. ap₂ (λ (a b : Mark). is_open a && not (is_open b)) (mark_is q l) (new_is q l))

@@ -11,12 +11,13 @@ use Rattle.atl.specs.declared.Temporal.{Temporal}
 use Rattle.atl.specs.declared.Mark.{Mark}
 use Rattle.atl.specs.declared.Mark.TheVariants.{Open}
 use Rattle.atl.specs.Playbook.{yes_below, playbook}
+use Rattle.table.specs.declared.types.Parts.{Parts}
 use Rattle.table.specs.declared.types.Rule.{Rule}
 use Rattle.table.specs.declared.types.Table.{Table}
-use Rattle.table.specs.Steps.{is_settled, YesArray}
-use Rattle.table.specs.Answers.{book_bytes, buffer_after}
+use Rattle.table.specs.Steps.{is_settled}
+use Rattle.table.specs.Answers.{buffer_after}
 use Rattle.table.specs.Standing.{Stack}
-use Rattle.table.specs.Shows.{rule_at, Shows}
+use Rattle.table.specs.Shows.{Shows}
 
 abbrev pub marks_in : Rule → ℕ → Mark
 marks_in y q = slice_index_or y.marks q Open
@@ -24,9 +25,9 @@ marks_in y q = slice_index_or y.marks q Open
 abbrev pub Below : Rule → ℕ → List Bool → Type 0
 Below y n xs = (q : ℕ) → q < 256 → set_of xs q ≡ yes_below n (marks_in y q)
 
--- the playbook's choice by the marks of a record and the yes states ys and zs of its parts
-abbrev pub choice_of : Structure → Rule → (ys zs : List Bool) → Temporal → ℕ → ℕ
-choice_of m y ys zs o q = playbook m y.group (marks_in y) (set_of ys) (set_of zs) o q
+-- the playbook's choice by the marks of a record and the yes states of its parts
+abbrev pub choice_of : Structure → Rule → Parts → Temporal → ℕ → ℕ
+choice_of m y parts o q = playbook m y.group (marks_in y) (set_of parts.r) (set_of parts.s) o q
 
 abbrev pub temporal_of : Kind → Result Temporal Refusal
 temporal_of Label = Err NoPlaybook
@@ -37,14 +38,6 @@ temporal_of (Strategic Despite o) = Err NoPlaybook
 
 abbrev pub book_in : Rule → Result Temporal Refusal
 book_in y = cond (is_settled y.condition) (temporal_of y.kind) (Err NotSettled)
-
--- the bytes of the choices of rule n at all states
-pub record Choices (m : Structure) (t : Table) (n : ℕ) (o : Temporal) (bytes : List ℕ) : Type 0 where
-  pub yes_r : List Bool
-  pub yes_s : List Bool
-  pub is_r : YesArray t (rule_at t.rules n).r yes_r
-  pub is_s : YesArray t (rule_at t.rules n).s yes_s
-  pub bytes_are : bytes ≡ book_bytes (choice_of m (rule_at t.rules n) yes_r yes_s o) m.states
 
 -- the buffer after a copy, whatever stands
 abbrev pub Buffered : Structure → Table → (n place : ℕ) → (before after : List ℕ) → Type 0

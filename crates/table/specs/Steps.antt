@@ -15,6 +15,7 @@ use Rattle.table.specs.declared.types.Condition.{Condition}
 use Rattle.table.specs.declared.types.Condition.TheVariants.{Fresh, Working, Settled}
 use Rattle.table.specs.declared.types.Rule.{Rule}
 use Rattle.table.specs.declared.types.Table.{Table}
+use Rattle.table.specs.declared.types.Parts.{Parts}
 use Rattle.table.specs.declared.types.Sets.{Sets}
 use Rattle.table.specs.Parts.{waits}
 use Rattle.table.specs.Shows.{rule_at, condition_of}
@@ -40,6 +41,11 @@ tell_table t n = cond (nat_lt n t.count) (Ok (rounds_in (rule_at t.rules n).cond
 abbrev pub fresh_rule : Kind → ℕ → ℕ → ℕ → Rule
 fresh_rule f A r s = record { kind = f; group = A; r = r; s = s; marks = replicate 256 Open; condition = Fresh }
 
+-- the rule that a write takes, fresh
+abbrev pub admitted : Result Kind Refusal → (A r s : ℕ) → Result Rule Refusal
+admitted (Ok f) A r s = Ok (fresh_rule f A r s)
+admitted (Err e) A r s = Err e
+
 abbrev pub Wrote : Table → Table → (A r s : ℕ) → Result Kind Refusal → Type 0
 Wrote t t' A r s (Ok f) = (t'.count ≡ t.count + 1) × (t'.rules ≡ slice_set t.rules t.count (fresh_rule f A r s))
 Wrote t t' A r s (Err e) = t' ≡ t
@@ -55,11 +61,11 @@ Erased t t' (Err e) = (t.count ≡ 0) × (t' ≡ t)
 abbrev pub settled_in : Table → ℕ → Bool
 settled_in t n = nat_lt n t.count && is_settled (rule_at t.rules n).condition
 
-abbrev pub due_rule : (ℕ → Bool) → Rule → Result (ℕ × ℕ) Refusal
-due_rule done y = cond (waits done y.kind y.r y.s) (Err PartUnsettled) (cond (is_settled y.condition) (Err AlreadySettled) (Ok (y.r, y.s)))
+abbrev pub due_rule : (ℕ → Bool) → Rule → Result (Unit {0}) Refusal
+due_rule done y = cond (waits done y.kind y.r y.s) (Err PartUnsettled) (cond (is_settled y.condition) (Err AlreadySettled) (Ok tt))
 
--- the parts of a rule whose round is due, or why it is not
-abbrev pub due_table : Table → ℕ → Result (ℕ × ℕ) Refusal
+-- why a round of the rule is not due, if it is not
+abbrev pub due_table : Table → ℕ → Result (Unit {0}) Refusal
 due_table t n = cond (nat_lt n t.count) (due_rule (settled_in t) (rule_at t.rules n)) (Err NoRule)
 
 -- the yes states of a record, and of a rule that stands
@@ -68,6 +74,11 @@ YesMarks y ys = (q : ℕ) → q < 256 → set_of ys q ≡ is_yes (slice_index_or
 
 abbrev pub YesArray : Table → ℕ → List Bool → Type 0
 YesArray t n ys = n < t.count → YesMarks (rule_at t.rules n) ys
+
+-- the yes states of the parts of a rule
+pub record PartsOf (t : Table) (y : Rule) (parts : Parts) : Type 0 where
+  pub r : YesArray t y.r parts.r
+  pub s : YesArray t y.s parts.s
 
 -- whether the mark puts a state into the set that the next round aims at
 abbrev pub aimed : Kind → Mark → Bool
@@ -104,7 +115,7 @@ pub record Kept (y y' : Rule) : Type 0 where
 
 module _ (m : Structure) (y : Rule) (sets : Sets) where
   abbrev pub proposal : ℕ → Mark
-  proposal q = proposed m y.condition y.kind y.group y.r (set_of sets.r) (set_of sets.s) (set_of sets.aim) q
+  proposal q = proposed m y.condition y.kind y.group y.r (set_of sets.parts.r) (set_of sets.parts.s) (set_of sets.aim) q
 
   -- a mark stays
   abbrev pub new_mark : ℕ → Mark → Mark
@@ -135,18 +146,16 @@ pub record Closed (n : ℕ) (y y' : Rule) : Type 0 where
   pub marks : (q : ℕ) → q < n → slice_index_or y'.marks q Open ≡ closed y.kind true (slice_index_or y.marks q Open)
   pub rest : (q : ℕ) → n ≤ q → slice_index_or y'.marks q Open ≡ slice_index_or y.marks q Open
 
--- y' is y after one more round over the yes states ys and zs of its parts
-pub record Worked (m : Structure) (y : Rule) (ys zs : List Bool) (y' : Rule) (c : ℕ) : Type 0 where
+-- y' is y after one more round over the yes states of its parts
+pub record Worked (m : Structure) (y : Rule) (parts : Parts) (y' : Rule) (c : ℕ) : Type 0 where
   pub aim : List Bool
   pub aims : Aim y aim
-  pub rounded : Rounded m y (record { r = ys; s = zs; aim = aim }) y' c
+  pub rounded : Rounded m y (record { parts = parts; aim = aim }) y' c
 
 -- a round of rule n that is due
 pub record Stepped (m : Structure) (t t' : Table) (n c : ℕ) : Type 0 where
   pub count : t'.count ≡ t.count
   pub rules : t'.rules ≡ slice_set t.rules n (rule_at t'.rules n)
-  pub yes_r : List Bool
-  pub yes_s : List Bool
-  pub is_r : YesArray t (rule_at t.rules n).r yes_r
-  pub is_s : YesArray t (rule_at t.rules n).s yes_s
-  pub worked : length (rule_at t.rules n).marks ≡ 256 → rounds_in (rule_at t.rules n).condition < 65535 → Worked m (rule_at t.rules n) yes_r yes_s (rule_at t'.rules n) c
+  pub parts : Parts
+  pub parts_are : PartsOf t (rule_at t.rules n) parts
+  pub worked : length (rule_at t.rules n).marks ≡ 256 → rounds_in (rule_at t.rules n).condition < 65535 → Worked m (rule_at t.rules n) parts (rule_at t'.rules n) c

@@ -7,45 +7,38 @@ ghost use Rattle.table.specs.Parts.{uses_r, uses_s, has_group};
 ghost use Rattle.table.specs.Shows.{condition_of};
 ghost use Rattle.table.specs.Steps.{rounds_in, is_settled, fresh_rule, YesMarks, aimed, Aim, proposal, new_mark, Passed, Closed, Worked};
 
-use crate::types::{Condition, Rule, Sets};
+use crate::types::{Condition, Parts, Rule, Sets};
 use atl::{Kind, Mark, Modality, Temporal};
 use game::Game;
 use search::{answering, serving};
 
-pub(crate) fn rounds(condition: Condition) -> u16
-    ensures { result ≡ rounds_in condition }
-{
-    match condition {
-        Condition::Fresh => 0,
-        Condition::Working(rounds) => rounds,
-        Condition::Settled(rounds) => rounds,
+impl Condition {
+    pub(crate) fn rounds(self) -> u16
+        ensures { result ≡ rounds_in self }
+    {
+        match self {
+            Condition::Fresh => 0,
+            Condition::Working(rounds) | Condition::Settled(rounds) => rounds,
+        }
     }
-}
 
-pub(crate) fn settled(condition: Condition) -> bool
-    ensures { result ≡ is_settled condition }
-{
-    match condition {
-        Condition::Settled(_) => true,
-        _ => false,
+    pub(crate) fn is_settled(self) -> bool
+        ensures { result ≡ is_settled self }
+    {
+        matches!(self, Condition::Settled(_))
     }
-}
 
-fn open(mark: Mark) -> bool
-    ensures { result ≡ is_open mark }
-{
-    match mark {
-        Mark::Open => true,
-        _ => false,
-    }
-}
-
-fn yes(mark: Mark) -> bool
-    ensures { result ≡ is_yes mark }
-{
-    match mark {
-        Mark::Yes(_) => true,
-        _ => false,
+    // The condition after a round that marked so many states.
+    fn after(self, kind: Kind, marked: u16) -> Condition
+        ensures { rounds_in self < 65535 → result ≡ condition_of (suc (rounds_in self)) (one_round kind || marked == 0) }
+    {
+        let done = self.rounds().saturating_add(1);
+        match kind {
+            Kind::Strategic(_, Temporal::Until | Temporal::Unless) if marked > 0 => {
+                Condition::Working(done)
+            }
+            _ => Condition::Settled(done),
+        }
     }
 }
 
@@ -89,7 +82,7 @@ fn mark_if(test: bool, mark: Mark) -> Mark
 fn newly(old: Mark, new: Mark) -> u16
     ensures { result ≡ (if is_open old && not (is_open new) then 1 else 0) }
 {
-    if open(old) && !open(new) { 1 } else { 0 }
+    u16::from(old.is_open() && !new.is_open())
 }
 
 // What a mark becomes when the rule settles.
@@ -103,15 +96,13 @@ fn closed(kind: Kind, mark: Mark) -> Mark
     }
 }
 
-// The condition after a round that marked so many states.
-fn moved_on(condition: Condition, kind: Kind, marked: u16) -> Condition
-    ensures { rounds_in condition < 65535 → result ≡ condition_of (suc (rounds_in condition)) (one_round kind || marked == 0) }
+// Whether a state with this mark is aimed at.
+fn aimed_at(kind: Kind, mark: Mark) -> bool
+    ensures { result ≡ aimed kind mark }
 {
-    let done = rounds(condition).saturating_add(1);
     match kind {
-        Kind::Strategic(_, Temporal::Until) | Kind::Strategic(_, Temporal::Unless) if marked > 0 =>
-            { Condition::Working(done) }
-        _ => Condition::Settled(done),
+        Kind::Strategic(_, Temporal::Unless) => mark.is_open(),
+        _ => mark.is_yes(),
     }
 }
 
@@ -133,36 +124,28 @@ impl Rule {
     pub(crate) fn yes_states(&self) -> [bool; 256]
         ensures { YesMarks self.now result }
     {
-        let mut states = [false; 256];
-        for state in 0..256usize {
-            states[state] = yes(self.marks[state]);
-        }
-        states
+        self.marks.map(|mark| mark.is_yes())
     }
 
     // The states that the next round of an until or an unless aims at: those marked yes, or those open.
     fn aim(&self) -> [bool; 256]
         ensures { Aim self.now result }
     {
-        let mut aim = [false; 256];
-        for state in 0..256usize {
-            aim[state] = aimed_at(self.kind, self.marks[state]);
-        }
-        aim
+        self.marks.map(|mark| aimed_at(self.kind, mark))
     }
 
     // What the next round marks an open state with.
     fn proposal<G: Game>(&self, game: &G, state: u8, sets: &Sets) -> Mark
         ensures { result ≡ proposal (G.Game.meaning game.now) self.now sets.now state }
     {
-        let r = has(&sets.r, state);
-        let s = has(&sets.s, state);
+        let r = has(&sets.parts.r, state);
+        let s = has(&sets.parts.s, state);
         match (self.condition, self.kind) {
             (_, Kind::Label) => decided(labelled(game, self.r, state)),
             (_, Kind::Not) => decided(!r),
             (_, Kind::Or) => decided(r || s),
             (_, Kind::Strategic(modality, Temporal::Next)) => {
-                decided(holds(game, modality, self.group, state, &sets.r))
+                decided(holds(game, modality, self.group, state, &sets.parts.r))
             }
             (Condition::Fresh, Kind::Strategic(_, Temporal::Until)) => mark_if(s, Mark::Yes(0)),
             (Condition::Fresh, Kind::Strategic(_, Temporal::Unless)) => mark_if(
@@ -188,7 +171,7 @@ impl Rule {
     fn new_mark<G: Game>(&self, game: &G, state: u8, old: Mark, sets: &Sets) -> Mark
         ensures { result ≡ new_mark (G.Game.meaning game.now) self.now sets.now state old }
     {
-        if open(old) {
+        if old.is_open() {
             self.proposal(game, state, sets)
         } else {
             old
@@ -221,27 +204,19 @@ impl Rule {
     }
 
     // One more round, over the yes states of the parts: marks what it marks, and moves the rule on.
-    pub(crate) fn round<G: Game>(&mut self, game: &G, r: [bool; 256], s: [bool; 256]) -> u16
-        ensures { length self.old.marks ≡ 256 → rounds_in self.old.condition < 65535 → Worked (G.Game.meaning game.now) self.old r s self.new result }
+    pub(crate) fn round<G: Game>(&mut self, game: &G, parts: Parts) -> u16
+        ensures { length self.old.marks ≡ 256 → rounds_in self.old.condition < 65535 → Worked (G.Game.meaning game.now) self.old parts self.new result }
     {
-        let aim = self.aim();
-        let sets = Sets { r, s, aim };
+        let sets = Sets {
+            parts,
+            aim: self.aim(),
+        };
         let (states, _) = game.states();
         let marked = self.pass(game, &sets);
-        self.condition = moved_on(self.condition, self.kind, marked);
-        if settled(self.condition) {
+        self.condition = self.condition.after(self.kind, marked);
+        if self.condition.is_settled() {
             self.close(states);
         }
         marked
-    }
-}
-
-// Whether a state with this mark is aimed at.
-fn aimed_at(kind: Kind, mark: Mark) -> bool
-    ensures { result ≡ aimed kind mark }
-{
-    match kind {
-        Kind::Strategic(_, Temporal::Unless) => open(mark),
-        _ => yes(mark),
     }
 }

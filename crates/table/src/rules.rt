@@ -1,85 +1,17 @@
 // The table of rules: what each call does to it.
-ghost use Rattle.std.specs.Prelude.{◌≡◌, ℕ, ◌+◌, ◌-◌, ◌^◌, ◌<◌, ◌≤◌, Bool, true, false, cond, not, ◌&&◌, ◌||◌, length, slice_set};
+ghost use Rattle.std.specs.Prelude.{◌≡◌, ℕ, ◌+◌, ◌-◌, ◌^◌, ◌<◌, ◌≤◌, Bool, true, false, cond, not, ◌&&◌, ◌||◌, length, slice_set, MatchResult};
 ghost use Rattle.game.specs.Structure.{Structure};
+ghost use Rattle.refusal.specs.declared.Refusal.TheVariants.{NoRule};
 ghost use Rattle.atl.specs.declared.Mark.TheVariants.{Open};
 ghost use Rattle.table.specs.Parts.{uses_r, uses_s, has_group, bad_group, bad_part, waits};
 ghost use Rattle.table.specs.Answers.{below, taken, number_if, write_answer, write_after, erase_answer, erase_after, round_answer, round_after, ask_answer, tell_answer};
 ghost use Rattle.table.specs.Shows.{rule_at, Does, Answers, FewRounds};
-ghost use Rattle.table.specs.Steps.{rounds_in, is_settled, ask_table, tell_table, fresh_rule, Wrote, erase_table, Erased, settled_in, due_table, YesArray, Stepped};
+ghost use Rattle.table.specs.Steps.{rounds_in, is_settled, ask_table, tell_table, fresh_rule, admitted, Wrote, erase_table, Erased, settled_in, due_table, YesArray, PartsOf};
 
-use crate::rule::{rounds, settled};
-use crate::types::{Rule, Table};
-use atl::{Kind, Shown, Temporal};
+use crate::types::{Parts, Rule, Table};
+use atl::{Kind, Shown};
 use game::Game;
 use refusal::Refusal;
-
-// Whether r is the number of a rule.
-fn uses_r(kind: Kind) -> bool
-    ensures { result ≡ uses_r kind }
-{
-    match kind {
-        Kind::Label => false,
-        _ => true,
-    }
-}
-
-// Whether s is the number of a rule.
-fn uses_s(kind: Kind) -> bool
-    ensures { result ≡ uses_s kind }
-{
-    match kind {
-        Kind::Label | Kind::Not | Kind::Strategic(_, Temporal::Next) => false,
-        _ => true,
-    }
-}
-
-fn has_group(kind: Kind) -> bool
-    ensures { result ≡ has_group kind }
-{
-    match kind {
-        Kind::Strategic(_, _) => true,
-        _ => false,
-    }
-}
-
-fn group_refused(players: u8, kind: Kind, group: u8) -> bool
-    requires { players ≤ 6 }
-    ensures { result ≡ bad_group players kind group }
-{
-    if has_group(kind) {
-        group >= 1 << players
-    } else {
-        group != 0
-    }
-}
-
-fn part_refused(count: u8, kind: Kind, r: u8, s: u8) -> bool
-    ensures { result ≡ bad_part (below count) kind r s }
-{
-    let bad_r = if uses_r(kind) { r >= count } else { r > 15 };
-    let bad_s = if uses_s(kind) { s >= count } else { s != 0 };
-    bad_r || bad_s
-}
-
-// The kind of the rule to be written, or why it is refused.
-fn takes(count: u8, players: u8, kind: u8, group: u8, r: u8, s: u8) -> Result<Kind, Refusal>
-    requires { players ≤ 6 }
-    ensures { result ≡ taken players count kind group r s }
-{
-    if count == 32 {
-        return Err(Refusal::Full);
-    }
-    let Some(kind) = Kind::numbered(kind) else {
-        return Err(Refusal::NoKind);
-    };
-    if group_refused(players, kind, group) {
-        return Err(Refusal::NoGroup);
-    }
-    if part_refused(count, kind, r, s) {
-        return Err(Refusal::NoPart);
-    }
-    Ok(kind)
-}
 
 impl Table {
     pub fn empty() -> Table
@@ -92,37 +24,58 @@ impl Table {
         }
     }
 
+    // The rule of this number.
+    pub(crate) fn find(&self, number: u8) -> Result<&Rule, Refusal>
+        ensures { MatchResult result (λ y. (number < self.now.count) × (y.now ≡ rule_at self.now.rules number)) (λ e. (self.now.count ≤ number) × (e ≡ NoRule)) }
+    {
+        if number < self.count {
+            Ok(&self.rules[number as usize])
+        } else {
+            Err(Refusal::NoRule)
+        }
+    }
+
     fn read(&self, states: u16, rule: u8, state: u8) -> Result<Shown, Refusal>
         ensures { result ≡ ask_table states self.now rule state }
     {
-        if rule >= self.count {
-            return Err(Refusal::NoRule);
-        }
+        let rule = self.find(rule)?;
         if u16::from(state) >= states {
             return Err(Refusal::NoState);
         }
-        Ok(self.rules[rule as usize].marks[state as usize].shown())
+        Ok(rule.marks[state as usize].into())
     }
 
     fn progress(&self, rule: u8) -> Result<(u16, bool), Refusal>
         ensures { result ≡ tell_table self.now rule }
     {
-        if rule >= self.count {
-            return Err(Refusal::NoRule);
+        let condition = self.find(rule)?.condition;
+        Ok((condition.rounds(), condition.is_settled()))
+    }
+
+    // The rule to be written, or why it is refused.
+    fn admit(&self, players: u8, kind: u8, group: u8, r: u8, s: u8) -> Result<Rule, Refusal>
+        ensures { result ≡ admitted (taken players self.now.count kind group r s) group r s }
+    {
+        if self.count == 32 {
+            return Err(Refusal::Full);
         }
-        let condition = self.rules[rule as usize].condition;
-        Ok((rounds(condition), settled(condition)))
+        let kind = Kind::try_from(kind).map_err(|_| Refusal::NoKind)?;
+        let rule = Rule::fresh(kind, group, r, s);
+        if rule.lacks_group(players) {
+            return Err(Refusal::NoGroup);
+        }
+        if rule.lacks_part(self.count) {
+            return Err(Refusal::NoPart);
+        }
+        Ok(rule)
     }
 
     fn enter(&mut self, players: u8, kind: u8, group: u8, r: u8, s: u8) -> Result<u8, Refusal>
-        requires { players ≤ 6 }
         ensures answer { result ≡ number_if self.old.count (taken players self.old.count kind group r s) }
         ensures table { Wrote self.old self.new group r s (taken players self.old.count kind group r s) }
     {
-        match takes(self.count, players, kind, group, r, s) {
-            Ok(kind) => Ok(self.push(Rule::fresh(kind, group, r, s))),
-            Err(refusal) => Err(refusal),
-        }
+        let rule = self.admit(players, kind, group, r, s)?;
+        Ok(self.push(rule))
     }
 
     fn push(&mut self, rule: Rule) -> u8
@@ -151,55 +104,51 @@ impl Table {
     fn is_settled(&self, rule: u8) -> bool
         ensures { result ≡ settled_in self.now rule }
     {
-        rule < self.count && settled(self.rules[rule as usize].condition)
+        match self.find(rule) {
+            Ok(rule) => rule.condition.is_settled(),
+            Err(_) => false,
+        }
     }
 
     // Whether a part has yet to settle.
-    fn part_waits(&self, kind: Kind, r: u8, s: u8) -> bool
-        ensures { result ≡ waits (settled_in self.now) kind r s }
+    fn part_waits(&self, rule: &Rule) -> bool
+        ensures { result ≡ waits (settled_in self.now) rule.now.kind rule.now.r rule.now.s }
     {
-        let waits_r = uses_r(kind) && !self.is_settled(r);
-        let waits_s = uses_s(kind) && !self.is_settled(s);
+        let waits_r = rule.uses_r() && !self.is_settled(rule.r);
+        let waits_s = rule.uses_s() && !self.is_settled(rule.s);
         waits_r || waits_s
     }
 
-    // The parts of a rule whose round is due, or why it is not.
-    fn due(&self, rule: u8) -> Result<(u8, u8), Refusal>
-        ensures { result ≡ due_table self.now rule }
-    {
-        if rule >= self.count {
-            return Err(Refusal::NoRule);
-        }
-        let kind = self.rules[rule as usize].kind;
-        let r = self.rules[rule as usize].r;
-        let s = self.rules[rule as usize].s;
-        if self.part_waits(kind, r, s) {
-            return Err(Refusal::PartUnsettled);
-        }
-        if settled(self.rules[rule as usize].condition) {
-            return Err(Refusal::AlreadySettled);
-        }
-        Ok((r, s))
-    }
-
-    pub(crate) fn yes_states(&self, rule: u8) -> [bool; 256]
+    fn yes_states(&self, rule: u8) -> [bool; 256]
         ensures { YesArray self.now rule result }
     {
-        if rule < self.count {
-            self.rules[rule as usize].yes_states()
-        } else {
-            [false; 256]
+        match self.find(rule) {
+            Ok(rule) => rule.yes_states(),
+            Err(_) => [false; 256],
         }
     }
 
-    // A round of one rule, over its parts r and s.
-    fn step<G: Game>(&mut self, game: &G, rule: u8, r: u8, s: u8) -> u16
-        requires { (rule < 32) × ((r ≡ (rule_at self.old.rules rule).r) × (s ≡ (rule_at self.old.rules rule).s)) }
-        ensures { length self.old.rules ≡ 32 → Stepped (G.Game.meaning game.now) self.old self.new rule result }
+    pub(crate) fn parts(&self, rule: &Rule) -> Parts
+        ensures { PartsOf self.now rule.now result }
     {
-        let yes_r = self.yes_states(r);
-        let yes_s = self.yes_states(s);
-        self.rules[rule as usize].round(game, yes_r, yes_s)
+        Parts {
+            r: self.yes_states(rule.r),
+            s: self.yes_states(rule.s),
+        }
+    }
+
+    // What a round of the rule works over, or why it is not due.
+    fn due(&self, rule: u8) -> Result<Parts, Refusal>
+        ensures { MatchResult result (λ parts. (due_table self.now rule ≡ Ok tt) × PartsOf self.now (rule_at self.now.rules rule) parts) (λ e. due_table self.now rule ≡ Err e) }
+    {
+        let rule = self.find(rule)?;
+        if self.part_waits(rule) {
+            return Err(Refusal::PartUnsettled);
+        }
+        if rule.condition.is_settled() {
+            return Err(Refusal::AlreadySettled);
+        }
+        Ok(self.parts(rule))
     }
 
     // The calls, over any game whose rules these are.
@@ -226,10 +175,8 @@ impl Table {
     pub fn round<G: Game>(&mut self, game: &G, rule: u8) -> Result<u16, Refusal>
         ensures { Does (G.Game.meaning game.now) (round_answer (G.Game.meaning game.now) rule) (round_after (G.Game.meaning game.now) rule) self.old self.new result }
     {
-        match self.due(rule) {
-            Ok((r, s)) => Ok(self.step(game, rule, r, s)),
-            Err(refusal) => Err(refusal),
-        }
+        let parts = self.due(rule)?;
+        Ok(self.rules[rule as usize].round(game, parts))
     }
 
     pub fn ask<G: Game>(&self, game: &G, rule: u8, state: u8) -> Result<Shown, Refusal>

@@ -30,10 +30,16 @@ pub struct Table {
     ghost ok: { count ≤ 32 },
 }
 
+// The yes states of a rule's parts.
+#[derive(Clone, Copy)]
+pub struct Parts {
+    pub(crate) r: [bool; 256],
+    pub(crate) s: [bool; 256],
+}
+
 // What a round works with: the yes states of the rule's parts, and the states that it aims at.
 #[derive(Clone, Copy)]
 pub struct Sets {
-    pub(crate) r: [bool; 256],
-    pub(crate) s: [bool; 256],
+    pub(crate) parts: Parts,
     pub(crate) aim: [bool; 256],
 }

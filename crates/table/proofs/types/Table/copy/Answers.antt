@@ -1,54 +1,54 @@
-use Rattle.std.proofs.Common.{◌+◌, ◌*◌, ◌<◌, ◌≤◌, length, Err, sym, refl, arith, length-drop, length-take}
+use Rattle.std.proofs.Common.{◌+◌, ◌*◌, ◌<◌, ◌≤◌, length, Err, sym, ap, ◌∙◌, subst, arith}
 use Rattle.std.proofs.lemmas.Bool.{lt-ltb, le-ltb, leb-true, leb-false}
+use Rattle.std.proofs.lemmas.Result.{err_from_is_err_and}
+use Rattle.table.specs.declared.types.Rule.{Rule}
+use Rattle.table.specs.Answers.{book_bytes}
+use Rattle.table.specs.Steps.{PartsOf}
+use Rattle.table.specs.Books.{choice_of, book_in}
 use Rattle.table.proofs.Copying.{gone_answer, gone_buffer, answer_by, buffer_by, no_room, no_room_buffer, copied, copied_buffer}
 use Rattle.table.proofs.types.Table.copy.Goals as goal
 
-pub returns-then-rule-self : goal.returns-then-rule-self
-returns-then-rule-self g c =
-    let m = g.G.Game.meaning c.args.game.now in
-    let L = g.G.Game.limits c.args.game.now in
-    let up = le-ltb c.args.rule c.args.self.now.count c.if-rule-self.true in
-    record {
-      answer = λ st p. gone_answer m L c.args.self.now st p c.args.rule c.args.place c.args.buffer.now up;
-      buffer = λ st p. gone_buffer m L c.args.self.now st p c.args.rule c.args.place c.args.buffer.now up;
-      refused = refl;
-    }
+pub returns-in_err-rule-clause-answer : goal.returns-in_err-rule-clause-answer
+returns-in_err-rule-clause-answer g c = λ st p.
+    let e = err_from_is_err_and c.from_residual.result c.from_residual.ensures.1 in
+    rw (e.1, e.2, c.in_err-rule.ensures.1) (gone_answer (g.G.Game.meaning c.args.game.now) (g.G.Game.limits c.args.game.now) c.args.self.now st p c.args.rule c.args.place c.args.buffer.now (le-ltb c.args.rule c.args.self.now.count c.in_err-rule.ensures.0))
 
-pub returns-in-Err : goal.returns-in-Err
-returns-in-Err g c =
-    let m = g.G.Game.meaning c.args.game.now in
-    let L = g.G.Game.limits c.args.game.now in
-    let up = lt-ltb c.args.rule c.args.self.now.count c.if-rule-self.false in
-    record {
-      answer = λ st p. answer_by m L c.args.self.now st p c.args.rule c.args.place c.args.buffer.now up (Err c.in-Err.refusal) (sym c.in-Err.ensures);
-      buffer = λ st p. buffer_by m L c.args.self.now st p c.args.rule c.args.place c.args.buffer.now up (Err c.in-Err.refusal) (sym c.in-Err.ensures);
-      refused = refl;
-    }
+pub returns-in_err-rule-clause-buffer : goal.returns-in_err-rule-clause-buffer
+returns-in_err-rule-clause-buffer g c = λ st p.
+    gone_buffer (g.G.Game.meaning c.args.game.now) (g.G.Game.limits c.args.game.now) c.args.self.now st p c.args.rule c.args.place c.args.buffer.now (le-ltb c.args.rule c.args.self.now.count c.in_err-rule.ensures.0)
 
-pub returns-then-not-has_room : goal.returns-then-not-has_room
-returns-then-not-has_room g c =
+pub returns-in_err-temporal-clause-answer : goal.returns-in_err-temporal-clause-answer
+returns-in_err-temporal-clause-answer g c = λ st p.
+    let e = err_from_is_err_and c.from_residual-in_err-temporal.result c.from_residual-in_err-temporal.ensures.1 in
+    rw (e.1, e.2) (answer_by (g.G.Game.meaning c.args.game.now) (g.G.Game.limits c.args.game.now) c.args.self.now st p c.args.rule c.args.place c.args.buffer.now (lt-ltb c.args.rule c.args.self.now.count c.in_ok-rule.ensures.0) (Err c.in_err-temporal.field-0.0) (ap book_in (sym c.in_ok-rule.ensures.1) ∙ sym c.in_err-temporal.ensures))
+
+pub returns-in_err-temporal-clause-buffer : goal.returns-in_err-temporal-clause-buffer
+returns-in_err-temporal-clause-buffer g c = λ st p.
+    buffer_by (g.G.Game.meaning c.args.game.now) (g.G.Game.limits c.args.game.now) c.args.self.now st p c.args.rule c.args.place c.args.buffer.now (lt-ltb c.args.rule c.args.self.now.count c.in_ok-rule.ensures.0) (Err c.in_err-temporal.field-0.0) (ap book_in (sym c.in_ok-rule.ensures.1) ∙ sym c.in_err-temporal.ensures)
+
+pub returns-then-not-has_room-clause-answer : goal.returns-then-not-has_room-clause-answer
+returns-then-not-has_room-clause-answer g c = λ st p.
     let m = g.G.Game.meaning c.args.game.now in
-    let L = g.G.Game.limits c.args.game.now in
-    let up = lt-ltb c.args.rule c.args.self.now.count c.if-rule-self.false in
     let none : length c.args.buffer.now < c.args.place + 4 * m.states = omega (arith, leb-false _ _ (sym c.if-not-has_room.ensures), c.states-states.ensures.0) in
-    record {
-      answer = λ st p. no_room m L c.args.self.now st p c.args.rule c.args.place c.args.buffer.now up c.in-Ok.temporal (sym c.in-Ok.ensures) none;
-      buffer = λ st p. no_room_buffer m L c.args.self.now st p c.args.rule c.args.place c.args.buffer.now up c.in-Ok.temporal (sym c.in-Ok.ensures) none;
-      refused = refl;
-    }
+    no_room m (g.G.Game.limits c.args.game.now) c.args.self.now st p c.args.rule c.args.place c.args.buffer.now (lt-ltb c.args.rule c.args.self.now.count c.in_ok-rule.ensures.0) c.in_ok-temporal.temporal (ap book_in (sym c.in_ok-rule.ensures.1) ∙ sym c.in_ok-temporal.ensures) none
 
-pub write_choices-requires : goal.write_choices-requires
-write_choices-requires g c =
-    (omega (arith, c.args.self.now.ok), simp (length-take, length-drop) (omega (arith, leb-true _ _ (sym c.if-not-has_room.ensures), c.states-states.ensures.0)))
-
-pub returns : goal.returns
-returns g c =
+pub returns-then-not-has_room-clause-buffer : goal.returns-then-not-has_room-clause-buffer
+returns-then-not-has_room-clause-buffer g c = λ st p.
     let m = g.G.Game.meaning c.args.game.now in
-    let L = g.G.Game.limits c.args.game.now in
-    let up = lt-ltb c.args.rule c.args.self.now.count c.if-rule-self.false in
+    let none : length c.args.buffer.now < c.args.place + 4 * m.states = omega (arith, leb-false _ _ (sym c.if-not-has_room.ensures), c.states-states.ensures.0) in
+    no_room_buffer m (g.G.Game.limits c.args.game.now) c.args.self.now st p c.args.rule c.args.place c.args.buffer.now (lt-ltb c.args.rule c.args.self.now.count c.in_ok-rule.ensures.0) c.in_ok-temporal.temporal (ap book_in (sym c.in_ok-rule.ensures.1) ∙ sym c.in_ok-temporal.ensures) none
+
+pub returns-clause-answer : goal.returns-clause-answer
+returns-clause-answer g c = λ st p.
+    let m = g.G.Game.meaning c.args.game.now in
     let room : c.args.place + 4 * m.states ≤ length c.args.buffer.now = omega (arith, leb-true _ _ (sym c.if-not-has_room.ensures), c.states-states.ensures.0) in
-    record {
-      answer = λ st p. copied m L c.args.self.now st p c.args.rule c.args.place c.args.buffer.now up c.in-Ok.temporal (sym c.in-Ok.ensures) _ (omega (arith, c.states-states.ensures.0)) room;
-      buffer = λ st p. copied_buffer m L c.args.self.now st p c.args.rule c.args.place c.args.buffer.now up c.in-Ok.temporal (sym c.in-Ok.ensures) _ c.write_choices.new.part (omega (arith, c.states-states.ensures.0)) room c.write_choices.ensures;
-      refused = tt;
-    }
+    copied m (g.G.Game.limits c.args.game.now) c.args.self.now st p c.args.rule c.args.place c.args.buffer.now (lt-ltb c.args.rule c.args.self.now.count c.in_ok-rule.ensures.0) c.in_ok-temporal.temporal (ap book_in (sym c.in_ok-rule.ensures.1) ∙ sym c.in_ok-temporal.ensures) _ (omega (arith, c.states-states.ensures.0)) room
+
+pub returns-clause-buffer : goal.returns-clause-buffer
+returns-clause-buffer g c = λ st p.
+    let m = g.G.Game.meaning c.args.game.now in
+    let here = c.in_ok-rule.ensures.1 in
+    let room : c.args.place + 4 * m.states ≤ length c.args.buffer.now = omega (arith, leb-true _ _ (sym c.if-not-has_room.ensures), c.states-states.ensures.0) in
+    copied_buffer m (g.G.Game.limits c.args.game.now) c.args.self.now st p c.args.rule c.args.place c.args.buffer.now (lt-ltb c.args.rule c.args.self.now.count c.in_ok-rule.ensures.0) c.in_ok-temporal.temporal (ap book_in (sym here) ∙ sym c.in_ok-temporal.ensures) _ c.write_choices.new.bytes (omega (arith, c.states-states.ensures.0)) room
+    c.parts-parts.result (subst (λ (y : Rule). PartsOf c.args.self.now y c.parts-parts.result) here c.parts-parts.ensures)
+    (c.write_choices.ensures ∙ ap (λ (y : Rule). book_bytes (choice_of m y c.parts-parts.result c.in_ok-temporal.temporal) m.states) here)
