@@ -259,7 +259,7 @@ module _ (m : Structure) (t : Table) (st : Stack) (p : Shows m st t) where
     is_s u = part_states n f s.parts.s (rule_at t.rules n).s f.rule.s f.right.s (omega (arith, f.orderly.part_s u, f.height)) L.many s.parts_are.s
 
     worked : Worked m (rule_at t.rules n) s.parts (rule_at t'.rules n) c
-    worked = s.worked f.right.long (small m L f.below f.rule (rule_at t.rules n) f.orderly f.right d.ready d.unsettled s.parts is_r is_s)
+    worked = s.worked (small m L f.below f.rule (rule_at t.rules n) f.orderly f.right d.ready d.unsettled s.parts is_r is_s)
 
     pub counted : c ≡ count_of f.rule f.below
     counted = counts_is m L f.below f.rule (rule_at t.rules n) f.orderly f.right d.ready d.unsettled s.parts is_r is_s (rule_at t'.rules n) c worked
@@ -291,16 +291,16 @@ does_refused_round m t n e h = record {
   refused = λ x q. refl;
 }
 
-pub does_round : (m : Structure) → Limits m → (t t' : Table) (n c : ℕ) → Tested t n → (length t.rules ≡ 32 → Stepped m t t' n c) → Does m (round_answer m n) (round_after m n) t t' (Ok c)
+pub does_round : (m : Structure) → Limits m → (t t' : Table) (n c : ℕ) → Tested t n → Stepped m t t' n c → Does m (round_answer m n) (round_after m n) t t' (Ok c)
 does_round m L t t' n c h s = record {
-  answers = λ st p. let d = due m t st p n h in ap Ok (counted m t st p L t' n c d (s p.long)) ∙ sym d.answer;
-  shows = λ st p. let d = due m t st p n h in subst (λ (a : Result ℕ Refusal). Shows m (advanced_if m a n st) t') (sym d.answer) (shows_next m t st p L t' n c d (s p.long));
+  answers = λ st p. let d = due m t st p n h in ap Ok (counted m t st p L t' n c d s) ∙ sym d.answer;
+  shows = λ st p. let d = due m t st p n h in subst (λ (a : Result ℕ Refusal). Shows m (advanced_if m a n st) t') (sym d.answer) (shows_next m t st p L t' n c d s);
   refused = λ x q. err_ok (sym q);
 }
 
 -- what the round of a rule does to the table
 pub stepped : (m : Structure) (t t' : Table) (n c : ℕ) (y' : Rule) (parts : Parts) → n < length t.rules → t'.count ≡ t.count → t'.rules ≡ set t.rules n y' → PartsOf t (rule_at t.rules n) parts
-    → (length (rule_at t.rules n).marks ≡ 256 → rounds_in (rule_at t.rules n).condition < 65535 → Worked m (rule_at t.rules n) parts y' c) → Stepped m t t' n c
+    → (rounds_in (rule_at t.rules n).condition < 65535 → Worked m (rule_at t.rules n) parts y' c) → Stepped m t t' n c
 stepped m t t' n c y' parts l ec er are w =
     let e : rule_at t'.rules n ≡ y' = ap (λ (z : List Rule). rule_at z n) er ∙ same_rule t.rules n y' l in
     record {
@@ -308,5 +308,5 @@ stepped m t t' n c y' parts l ec er are w =
       rules = er ∙ ap (set t.rules n) (sym e);
       parts = parts;
       parts_are = are;
-      worked = λ h k. subst (λ (y : Rule). Worked m (rule_at t.rules n) parts y c) (sym e) (w h k);
+      worked = λ h. subst (λ (y : Rule). Worked m (rule_at t.rules n) parts y c) (sym e) (w h);
     }

@@ -1,5 +1,5 @@
 -- A pass over the states, one state further.
-use Rattle.std.proofs.Common.{◌≡◌, ℕ, suc, ◌+◌, ◌<◌, Bool, true, false, cond, not, ◌&&◌, ◌||◌, eqb, ◌≢◌, List, length, get_or, set, sym, refl, ap, ◌∙◌, subst, ⊎_elim, add-one, arith, length-set, get_or-set_other, get_or-set_same}
+use Rattle.std.proofs.Common.{◌≡◌, ℕ, suc, ◌+◌, ◌<◌, ◌≤◌, Bool, true, false, cond, not, ◌&&◌, ◌||◌, eqb, ◌≢◌, List, length, get_or, set, sym, refl, ap, ◌∙◌, subst, ⊎_elim, add-one, arith, length-set, get_or-set_other, get_or-set_same}
 use Rattle.std.proofs.lemmas.Bool.{cases_eq}
 use Rattle.game.specs.Structure.{Structure}
 use Rattle.game.specs.Serving.{set_of}
@@ -67,22 +67,6 @@ module _ (m : Structure) (y : Rule) (sets : Sets) where
         counts = tally_more (gets_marked m y sets) n c k p.counts (f ∙ ap (λ (x : Mark). cond (is_open x && not (is_open v)) 1 0) old ∙ ap (λ (x : Mark). cond (is_open (get_or y.marks n Open) && not (is_open x)) 1 0) new);
       }
 
-pub closed_none : (y : Rule) → Closed 0 y y
-closed_none y = record { kept = kept_refl y; condition = refl; marks = λ q l. absurd (omega arith); rest = λ q l. refl }
-
-pub closed_more : (y y' : Rule) (n : ℕ) (v : Mark) → n < length y'.marks → Closed n y y' → v ≡ closed y'.kind true (get_or y'.marks n Open) → Closed (n + 1) y (remarked y' n v)
-closed_more y y' n v l p e =
-    let new : v ≡ closed y.kind true (get_or y.marks n Open) = e ∙ ap (λ (f : Kind). closed f true (get_or y'.marks n Open)) p.kept.kind ∙ ap (closed y.kind true) (p.rest n (omega arith)) in
-    record {
-      kept = kept_remarked y y' n v p.kept;
-      condition = p.condition;
-      marks = λ q b. ⊎_elim
-          (λ (i : n ≡ q). set_here y'.marks n v l q i ∙ new ∙ ap (λ (j : ℕ). closed y.kind true (get_or y.marks j Open)) i)
-          (λ (i : n ≡ q → ⊥). set_there y'.marks n v l q i ∙ p.marks q (omega arith))
-          (cases_eq n q);
-      rest = λ q b. set_there y'.marks n v l q (λ i. omega arith) ∙ p.rest q (omega arith);
-    }
-
 -- the whole round: a pass, then closed if it settles the rule
 settled_when : (k : ℕ) (b : Bool) → is_settled (condition_of (suc k) b) ≡ b
 settled_when k true = refl
@@ -122,10 +106,10 @@ module _ (m : Structure) (y y' : Rule) (sets : Sets) (c : ℕ) (d : Condition) (
     counts = p.counts;
   }
 
-  pub rounded_closed : is_settled d ≡ true → (y'' : Rule) → Closed m.states (moved y' d) y'' → Rounded m y sets y'' c
-  rounded_closed f y'' k = record {
+  pub rounded_closed : is_settled d ≡ true → m.states ≤ 256 → (y'' : Rule) → Closed (moved y' d) y'' → Rounded m y sets y'' c
+  rounded_closed f many y'' k = record {
     kept = record { kind = k.kept.kind ∙ p.kept.kind; group = k.kept.group ∙ p.kept.group; r = k.kept.r ∙ p.kept.r; s = k.kept.s ∙ p.kept.s; long = k.kept.long ∙ p.kept.long };
     condition = k.condition ∙ e;
-    marks = λ q l. k.marks q l ∙ ap (λ (g : Kind). closed g true (get_or y'.marks q Open)) p.kept.kind ∙ ap (closed y.kind true) (p.passed q l) ∙ ap (λ (b : Bool). closed y.kind b (new_mark m y sets q (get_or y.marks q Open))) (sym f ∙ done_is);
+    marks = λ q l. k.marks q (omega arith) ∙ ap (λ (g : Kind). closed g true (get_or y'.marks q Open)) p.kept.kind ∙ ap (closed y.kind true) (p.passed q l) ∙ ap (λ (b : Bool). closed y.kind b (new_mark m y sets q (get_or y.marks q Open))) (sym f ∙ done_is);
     counts = p.counts;
   }

@@ -180,7 +180,7 @@ impl Rule {
 
     // Marks the states that the next round marks, and counts them.
     fn pass<G: Game>(&mut self, game: &G, sets: &Sets) -> u16
-        ensures { length self.old.marks ≡ 256 → Passed (G.Game.meaning game.now) self.old sets.now (G.Game.meaning game.now).states self.new result }
+        ensures { Passed (G.Game.meaning game.now) self.old sets.now (G.Game.meaning game.now).states self.new result }
     {
         let (states, _) = game.states();
         let mut marked: u16 = 0;
@@ -194,28 +194,25 @@ impl Rule {
     }
 
     // Gives the states that are still open what a settled rule says of them.
-    fn close(&mut self, states: u16)
-        requires { states ≤ 256 }
-        ensures { length self.old.marks ≡ 256 → Closed states self.old self.new }
+    fn close(&mut self)
+        ensures { Closed self.old self.new }
     {
-        for state in 0..states as usize {
-            self.marks[state] = closed(self.kind, self.marks[state]);
-        }
+        let kind = self.kind;
+        self.marks = self.marks.map(|mark| closed(kind, mark));
     }
 
     // One more round, over the yes states of the parts: marks what it marks, and moves the rule on.
     pub(crate) fn round<G: Game>(&mut self, game: &G, parts: Parts) -> u16
-        ensures { length self.old.marks ≡ 256 → rounds_in self.old.condition < 65535 → Worked (G.Game.meaning game.now) self.old parts self.new result }
+        ensures { rounds_in self.old.condition < 65535 → Worked (G.Game.meaning game.now) self.old parts self.new result }
     {
         let sets = Sets {
             parts,
             aim: self.aim(),
         };
-        let (states, _) = game.states();
         let marked = self.pass(game, &sets);
         self.condition = self.condition.after(self.kind, marked);
         if self.condition.is_settled() {
-            self.close(states);
+            self.close();
         }
         marked
     }
