@@ -7,7 +7,7 @@ ghost use Rattle.table.specs.Shows.{Answers};
 ghost use Rattle.table.specs.Books.{Below, choice_of, temporal_of, book_in, Buffered, KeptIfRefused};
 
 use crate::rule::has;
-use crate::types::{Parts, Rule, Table};
+use crate::types::{Condition, Parts, Rule, Table};
 use atl::{Kind, Mark, Modality, Temporal};
 use game::Game;
 use refusal::Refusal;
@@ -24,10 +24,7 @@ fn yes_below(number: u16, mark: Mark) -> bool
 fn kept_to<G: Game>(game: &G, state: u8, group: u8, inside: &[bool; 256]) -> u32
     ensures { result ≡ keep_to (G.Game.meaning game.now) group state (set_of inside.now) }
 {
-    match serving(game, state, group, inside) {
-        Some(choice) => choice,
-        None => first_choice(game, state, group),
-    }
+    serving(game, state, group, inside).unwrap_or_else(|| first_choice(game, state, group))
 }
 
 // Whether so many bytes from the place on are within the length.
@@ -35,16 +32,6 @@ fn has_room(len: usize, place: usize, size: usize) -> bool
     ensures { result ≡ nat_le (place + size) len }
 {
     size <= len && place <= len - size
-}
-
-// What kind of playbook a rule has.
-fn temporal(kind: Kind) -> Result<Temporal, Refusal>
-    ensures { result ≡ temporal_of kind }
-{
-    match kind {
-        Kind::Strategic(Modality::Can, temporal) => Ok(temporal),
-        _ => Err(Refusal::NoPlaybook),
-    }
 }
 
 impl Rule {
@@ -59,10 +46,10 @@ impl Rule {
     fn book(&self) -> Result<Temporal, Refusal>
         ensures { result ≡ book_in self.now }
     {
-        if self.condition.is_settled() {
-            temporal(self.kind)
-        } else {
-            Err(Refusal::NotSettled)
+        match (self.condition, self.kind) {
+            (Condition::Settled(_), Kind::Strategic(Modality::Can, temporal)) => Ok(temporal),
+            (Condition::Settled(_), _) => Err(Refusal::NoPlaybook),
+            _ => Err(Refusal::NotSettled),
         }
     }
 
@@ -87,6 +74,7 @@ impl Rule {
         requires { length bytes.old ≡ 4 * (G.Game.meaning game.now).states }
         ensures { bytes.new ≡ book_bytes (choice_of (G.Game.meaning game.now) self.now parts.now temporal) (G.Game.meaning game.now).states }
     {
+        // By index, since a loop over chunks_exact_mut tells nothing of what it wrote.
         let (states, _) = game.states();
         for state in 0..states {
             let choice = self.choice(game, temporal, state as u8, parts);

@@ -42,7 +42,7 @@ impl Condition {
     }
 }
 
-// Whether the state is in the set.
+// Whether the state is in the set: the one place where a proof opens the definition of a set.
 pub(crate) fn has(set: &[bool; 256], state: u8) -> bool
     ensures { result ≡ set_of set.now state }
 {
@@ -182,6 +182,7 @@ impl Rule {
     fn pass<G: Game>(&mut self, game: &G, sets: &Sets) -> u16
         ensures { Passed (G.Game.meaning game.now) self.old sets.now (G.Game.meaning game.now).states self.new result }
     {
+        // By index, since new_mark reads the whole rule while its marks are written.
         let (states, _) = game.states();
         let mut marked: u16 = 0;
         for state in 0..states {

@@ -104,10 +104,8 @@ impl Table {
     fn is_settled(&self, rule: u8) -> bool
         ensures { result ≡ settled_in self.now rule }
     {
-        match self.find(rule) {
-            Ok(rule) => rule.condition.is_settled(),
-            Err(_) => false,
-        }
+        self.find(rule)
+            .is_ok_and(|rule| rule.condition.is_settled())
     }
 
     // Whether a part has yet to settle.

@@ -15,8 +15,8 @@ loop-state-preserved g c =
     let m = g.G.Game.meaning c.args.game.now in
     let many = (g.G.Game.limits c.args.game.now).many in (
       (let p = c.loop-state.invariant.0 in
-      let long : length c.args.self.now.marks ≡ 256 = search rules in
-      passed_more m c.args.self.now c.args.sets.now c.loop-state.state c.loop-state.self c.loop-state.marked c.newly-marked.result c.new_mark-new.result (omega (arith, long, p.kept.long, many, c.states-states.ensures.0)) p c.new_mark-new.ensures c.newly-marked.ensures),
+          let long : length c.args.self.now.marks ≡ 256 = search rules in
+          passed_more m c.args.self.now c.args.sets.now c.loop-state.state c.loop-state.self c.loop-state.marked c.newly-marked.result c.new_mark-new.result (omega (arith, long, p.kept.long, many, c.states-states.ensures.0)) p c.new_mark-new.ensures c.newly-marked.ensures),
       omega (arith, one_at_most _ c.newly-marked.result c.newly-marked.ensures, c.loop-state.invariant.1),
     )
 
