@@ -119,7 +119,7 @@ impl From<Mark> for Shown {
 fn one_more(count: u16) -> u32
     ensures { result ≡ count + 1 }
 {
-    count as u32 + 1
+    u32::from(count) + 1
 }
 
 // How many rounds settle any rule of a game with so many states. What the marks of a settled rule mean is proved here too.
