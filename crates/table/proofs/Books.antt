@@ -112,7 +112,7 @@ module _ (m : Structure) (L : Limits m) (y : Rule) (parts : Parts) (q : ℕ) (l 
 
 -- the answers of play
 module _ (m : Structure) (L : Limits m) (t : Table) (st : Stack) (p : Shows m st t) (n q : ℕ) where
-  module _ (up : ltb n t.count ≡ true) where
+  module _ (up : n < t.count) where
     abbrev f : At m t st p n
     f = at m t st p n up
 
@@ -128,5 +128,5 @@ module _ (m : Structure) (L : Limits m) (t : Table) (st : Stack) (p : Shows m st
         ap Ok (e ∙ choice_is m L t st p n f parts are o h q l)
         ∙ sym (ap (λ o. play_of m o q) f.is ∙ cond-true _ _ _ (lt-ltb q m.states l) ∙ ap (choice_in m q) (book_is m L t st p n f ∙ ap (booked (book m L t st p n f)) h))
 
-  pub no_rule : ltb n t.count ≡ false → Err NoRule ≡ play_answer m n q st
+  pub no_rule : t.count ≤ n → Err NoRule ≡ play_answer m n q st
   no_rule e = sym (ap (λ o. play_of m o q) (gone m t st p n e))

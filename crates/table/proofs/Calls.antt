@@ -115,7 +115,6 @@ is_settled_of (suc k) false z = refl
 
 -- what a round that is due tells of the table
 pub record Tested (t : Table) (n : ℕ) : Type 0 where
-  pub up : ltb n t.count ≡ true
   pub low : n < t.count
   pub ready : waits (settled_in t) (rule_at t.rules n).kind (rule_at t.rules n).r (rule_at t.rules n).s ≡ false
   pub unsettled : is_settled (rule_at t.rules n).condition ≡ false
@@ -125,7 +124,7 @@ tested t n h = ⊎_elim
     (λ (b : ltb n t.count ≡ true).
     let w = waits (settled_in t) (rule_at t.rules n).kind (rule_at t.rules n).r (rule_at t.rules n).s in
     let q = past w PartUnsettled _ tt (sym (cond-true _ _ (Err NoRule) b) ∙ h) in
-    record { up = b; low = ltb-true n t.count b; ready = q.0; unsettled = (past (is_settled (rule_at t.rules n).condition) AlreadySettled (Ok tt) tt q.1).0 })
+    record { low = ltb-true n t.count b; ready = q.0; unsettled = (past (is_settled (rule_at t.rules n).condition) AlreadySettled (Ok tt) tt q.1).0 })
     (λ (b : ltb n t.count ≡ false). err_ok (sym (cond-false _ (due_rule (settled_in t) (rule_at t.rules n)) (Err NoRule) b) ∙ h))
     (cases_Bool (ltb n t.count))
 
@@ -134,11 +133,11 @@ module _ (m : Structure) (t : Table) (st : Stack) (p : Shows m st t) where
   abbrev pub At : ℕ → Type 0
   At n = Found m t.rules st n
 
-  pub at : (n : ℕ) → ltb n t.count ≡ true → At n
-  at n e = find m t.rules st p.rules n (omega (arith, ltb-true n t.count e, p.count))
+  pub at : (n : ℕ) → n < t.count → At n
+  at n l = find m t.rules st p.rules n (omega (arith, p.count))
 
-  pub gone : (n : ℕ) → ltb n t.count ≡ false → found st n ≡ None
-  gone n e = missing st n (omega (arith, ltb-false n t.count e, p.count))
+  pub gone : (n : ℕ) → t.count ≤ n → found st n ≡ None
+  gone n l = missing st n (omega (arith, p.count))
 
   unsettled_first : (x : Standing) (below : Stack) → x.rounds ≡ 0 → settled_of m x (yes_states m below) ≡ false
   unsettled_first x below e = fresh_settles m.states x.kind (marks_of m x (yes_states m below)) x.rounds e
@@ -152,8 +151,8 @@ module _ (m : Structure) (t : Table) (st : Stack) (p : Shows m st t) where
   -- a call on rule n: what the table gives, case by case
   by_number : {X : Type 0} (n : ℕ) (here gone_here : X) (answer : Option (Standing × Stack) → X) → ((f : At n) → here ≡ answer (Some (f.rule, f.below))) → gone_here ≡ answer None → cond (ltb n t.count) here gone_here ≡ answer (found st n)
   by_number n here gone_here answer h g = ⊎_elim
-      (λ (e : ltb n t.count ≡ true). let f = at n e in cond-true _ here gone_here e ∙ h f ∙ ap answer (sym f.is))
-      (λ (e : ltb n t.count ≡ false). cond-false _ here gone_here e ∙ g ∙ ap answer (sym (gone n e)))
+      (λ (e : ltb n t.count ≡ true). let f = at n (ltb-true n t.count e) in cond-true _ here gone_here e ∙ h f ∙ ap answer (sym f.is))
+      (λ (e : ltb n t.count ≡ false). cond-false _ here gone_here e ∙ g ∙ ap answer (sym (gone n (ltb-false n t.count e))))
       (cases_Bool (ltb n t.count))
 
   pub asks : (n q : ℕ) → ask_table m.states t n q ≡ ask_answer m n q st
@@ -178,8 +177,8 @@ module _ (m : Structure) (t : Table) (st : Stack) (p : Shows m st t) where
 
   pub few_rounds : (n : ℕ) → Few m.states (tell_answer m n st)
   few_rounds n = ⊎_elim
-      (λ (e : ltb n t.count ≡ true). let f = at n e in subst (λ (o : Option (Standing × Stack)). Few m.states (tell_of m o)) (sym f.is) (few_of f.rule f.below f.orderly))
-      (λ (e : ltb n t.count ≡ false). subst (λ (o : Option (Standing × Stack)). Few m.states (tell_of m o)) (sym (gone n e)) tt)
+      (λ (e : ltb n t.count ≡ true). let f = at n (ltb-true n t.count e) in subst (λ (o : Option (Standing × Stack)). Few m.states (tell_of m o)) (sym f.is) (few_of f.rule f.below f.orderly))
+      (λ (e : ltb n t.count ≡ false). subst (λ (o : Option (Standing × Stack)). Few m.states (tell_of m o)) (sym (gone n (ltb-false n t.count e))) tt)
       (cases_Bool (ltb n t.count))
 
   -- Rounds. The rules below rule n, as the table has them.
@@ -189,7 +188,7 @@ module _ (m : Structure) (t : Table) (st : Stack) (p : Shows m st t) where
 
     settled_low_is : (i : ℕ) → i < n → settled_in t i ≡ settled m f.below i
     settled_low_is i l =
-        let g = at i (lt-ltb i t.count (low i l)) in
+        let g = at i (low i l) in
         ap (λ (b : Bool). b && is_settled (rule_at t.rules i).condition) (lt-ltb i t.count (low i l)) ∙ rule_settled i g ∙ sym g.settled_is ∙ f.settled_low i l
 
     used : (u a b : Bool) → (u ≡ true → a ≡ b) → (u && not a) ≡ (u && not b)
@@ -226,9 +225,9 @@ module _ (m : Structure) (t : Table) (st : Stack) (p : Shows m st t) where
   pub round_refused : (n : ℕ) (e : Refusal) → due_table t n ≡ Err e → round_answer m n st ≡ Err e
   round_refused n e h = ⊎_elim
       (λ (b : ltb n t.count ≡ true).
-      let f = at n b in
+      let f = at n (ltb-true n t.count b) in
       ap (round_of m) f.is ∙ round_tests n f ∙ refused_by (waits (settled_in t) (rule_at t.rules n).kind (rule_at t.rules n).r (rule_at t.rules n).s) (is_settled (rule_at t.rules n).condition) tt (count_of f.rule f.below) e (sym (cond-true _ _ (Err NoRule) b) ∙ h))
-      (λ (b : ltb n t.count ≡ false). ap (round_of m) (gone n b) ∙ err_err (sym (cond-false _ (due_rule (settled_in t) (rule_at t.rules n)) (Err NoRule) b) ∙ h))
+      (λ (b : ltb n t.count ≡ false). ap (round_of m) (gone n (ltb-false n t.count b)) ∙ err_err (sym (cond-false _ (due_rule (settled_in t) (rule_at t.rules n)) (Err NoRule) b) ∙ h))
       (cases_Bool (ltb n t.count))
 
   -- a round that is due
@@ -240,7 +239,7 @@ module _ (m : Structure) (t : Table) (st : Stack) (p : Shows m st t) where
 
   pub due : (n : ℕ) → Tested t n → Due n
   due n d =
-      let f = at n d.up in
+      let f = at n d.low in
       record {
         at_n = f;
         ready = sym (waits_is n f) ∙ d.ready;

@@ -35,13 +35,13 @@ bytes_same f g (suc n) h = ap₂ (λ (a : List ℕ) (c : ℕ). a ++ four_bytes c
 
 -- The answers of copy, and the buffer after each.
 module _ (m : Structure) (L : Limits m) (t : Table) (st : Stack) (p : Shows m st t) (n place : ℕ) (xs : List ℕ) where
-  pub gone_answer : ltb n t.count ≡ false → Err NoRule ≡ copy_answer m n place (length xs) st
+  pub gone_answer : t.count ≤ n → Err NoRule ≡ copy_answer m n place (length xs) st
   gone_answer e = sym (ap (λ o. copy_of m o place (length xs)) (gone m t st p n e))
 
-  pub gone_buffer : ltb n t.count ≡ false → xs ≡ buffer_after m n place st xs
+  pub gone_buffer : t.count ≤ n → xs ≡ buffer_after m n place st xs
   gone_buffer e = sym (ap (λ o. buffer_of m o place xs) (gone m t st p n e))
 
-  module _ (up : ltb n t.count ≡ true) (r : Result Temporal Refusal) (h : book_in (rule_at t.rules n) ≡ r) where
+  module _ (up : n < t.count) (r : Result Temporal Refusal) (h : book_in (rule_at t.rules n) ≡ r) where
     abbrev f : At m t st p n
     f = at m t st p n up
 
@@ -54,7 +54,7 @@ module _ (m : Structure) (L : Limits m) (t : Table) (st : Stack) (p : Shows m st
     pub buffer_by : written_in m place xs (booked (book m L t st p n f) r) ≡ buffer_after m n place st xs
     buffer_by = sym (ap (λ o. buffer_of m o place xs) f.is ∙ ap (written_in m place xs) book_as_found)
 
-  module _ (up : ltb n t.count ≡ true) (o : Temporal) (h : book_in (rule_at t.rules n) ≡ Ok o) where
+  module _ (up : n < t.count) (o : Temporal) (h : book_in (rule_at t.rules n) ≡ Ok o) where
     pub no_room : length xs < place + 4 * m.states → Err NoRoom ≡ copy_answer m n place (length xs) st
     no_room l = sym (cond-false _ _ _ (lt-leb (place + 4 * m.states) (length xs) l)) ∙ answer_by up (Ok o) h
 

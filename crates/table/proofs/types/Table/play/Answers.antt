@@ -1,5 +1,4 @@
 use Rattle.std.proofs.Common.{◌<◌, sym, ap, ◌∙◌, subst, arith}
-use Rattle.std.proofs.lemmas.Bool.{lt-ltb, le-ltb}
 use Rattle.std.proofs.lemmas.Result.{err_from_is_err_and}
 use Rattle.table.specs.declared.types.Rule.{Rule}
 use Rattle.table.specs.Steps.{PartsOf}
@@ -10,23 +9,23 @@ use Rattle.table.proofs.types.Table.play.Goals as goal
 pub returns-in_err-rule : goal.returns-in_err-rule
 returns-in_err-rule g c = λ st p.
     let e = err_from_is_err_and c.from_residual.result c.from_residual.ensures.1 in
-    rw (e.1, e.2, c.in_err-rule.ensures.1) (no_rule (g.G.Game.meaning c.args.game.now) (g.G.Game.limits c.args.game.now) c.args.self.now st p c.args.rule c.args.state (le-ltb c.args.rule c.args.self.now.count c.in_err-rule.ensures.0))
+    rw (e.1, e.2, c.in_err-rule.ensures.1) (no_rule (g.G.Game.meaning c.args.game.now) (g.G.Game.limits c.args.game.now) c.args.self.now st p c.args.rule c.args.state c.in_err-rule.ensures.0)
 
 pub returns-then-from-states : goal.returns-then-from-states
 returns-then-from-states g c = λ st p.
-    no_state (g.G.Game.meaning c.args.game.now) (g.G.Game.limits c.args.game.now) c.args.self.now st p c.args.rule c.args.state (lt-ltb c.args.rule c.args.self.now.count c.in_ok-rule.ensures.0) (omega (arith, c.states-states.ensures.0))
+    no_state (g.G.Game.meaning c.args.game.now) (g.G.Game.limits c.args.game.now) c.args.self.now st p c.args.rule c.args.state c.in_ok-rule.ensures.0 (omega (arith, c.states-states.ensures.0))
 
 pub returns-in_err-temporal : goal.returns-in_err-temporal
 returns-in_err-temporal g c = λ st p.
     let e = err_from_is_err_and c.from_residual-in_err-temporal.result c.from_residual-in_err-temporal.ensures.1 in
-    rw (e.1, e.2) (play_refused (g.G.Game.meaning c.args.game.now) (g.G.Game.limits c.args.game.now) c.args.self.now st p c.args.rule c.args.state (lt-ltb c.args.rule c.args.self.now.count c.in_ok-rule.ensures.0) _ (omega (arith, c.states-states.ensures.0)) (ap book_in (sym c.in_ok-rule.ensures.1) ∙ sym c.in_err-temporal.ensures))
+    rw (e.1, e.2) (play_refused (g.G.Game.meaning c.args.game.now) (g.G.Game.limits c.args.game.now) c.args.self.now st p c.args.rule c.args.state c.in_ok-rule.ensures.0 _ (omega (arith, c.states-states.ensures.0)) (ap book_in (sym c.in_ok-rule.ensures.1) ∙ sym c.in_err-temporal.ensures))
 
 pub returns : goal.returns
 returns g c = λ st p.
     let m = g.G.Game.meaning c.args.game.now in
     let l : c.args.state < m.states = omega (arith, c.states-states.ensures.0) in
     let here = c.in_ok-rule.ensures.1 in
-    plays m (g.G.Game.limits c.args.game.now) c.args.self.now st p c.args.rule c.args.state (lt-ltb c.args.rule c.args.self.now.count c.in_ok-rule.ensures.0) c.parts-parts.result
+    plays m (g.G.Game.limits c.args.game.now) c.args.self.now st p c.args.rule c.args.state c.in_ok-rule.ensures.0 c.parts-parts.result
     (subst (λ (y : Rule). PartsOf c.args.self.now y c.parts-parts.result) here c.parts-parts.ensures) c.in_ok-temporal.temporal c.choice.result l
     (ap book_in (sym here) ∙ sym c.in_ok-temporal.ensures)
     (c.choice.ensures l ∙ ap (λ (y : Rule). choice_of m y c.parts-parts.result c.in_ok-temporal.temporal c.args.state) here)
