@@ -35,12 +35,12 @@ pub enum Refusal {
     NoLimit,
 }
 
-impl Refusal {
-    // The number under which the refusal is reported.
-    pub fn number(self) -> u8
-        ensures { result ≡ number_of self }
-    {
-        match self {
+// The number under which a refusal is reported.
+impl From<Refusal> for u8 {
+    ghost from_gives = { λ refusal number. number ≡ number_of refusal };
+
+    fn from(refusal: Refusal) -> u8 {
+        match refusal {
             Refusal::Full => 1,
             Refusal::NoKind => 2,
             Refusal::NoGroup => 3,
