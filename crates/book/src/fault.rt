@@ -1,6 +1,9 @@
 // What is wrong with a book, and where.
-ghost use Rattle.std.specs.Prelude.{◌≡◌};
+ghost use Rattle.std.specs.Prelude.{◌≡◌, Some};
 ghost use Rattle.book.specs.Faults.{fault, number_of, word_of};
+
+use std::fmt;
+use std::fmt::{Display, Formatter, Write};
 
 #[derive(Clone, Copy, PartialEq, Eq, Debug)]
 pub enum Cause {
@@ -33,12 +36,12 @@ pub struct Fault {
     pub layer: Layer,
 }
 
-impl Cause {
-    // The number under which the cause is reported.
-    pub fn number(self) -> u8
-        ensures { result ≡ number_of self }
-    {
-        match self {
+// The number under which a cause is reported.
+impl From<Cause> for u8 {
+    ghost from_gives = { λ cause number. number ≡ number_of cause };
+
+    fn from(cause: Cause) -> u8 {
+        match cause {
             Cause::TooLong => 14,
             Cause::Ended => 15,
             Cause::Cut => 16,
@@ -49,16 +52,16 @@ impl Cause {
     }
 }
 
-impl Layer {
-    // The word for the layer.
-    pub fn word(self) -> &'static str
-        ensures { result.now ≡ word_of self }
-    {
-        match self {
+// The word for a layer.
+impl Display for Layer {
+    ghost output = { λ layer. Some (word_of layer) };
+
+    fn fmt<W: Write>(&self, f: &mut Formatter<W>) -> fmt::Result {
+        f.write_str(match self {
             Layer::Book => "book",
             Layer::Field => "field",
             Layer::Record => "record",
-        }
+        })
     }
 }
 

@@ -9,15 +9,11 @@ marks_push : (xs : List Shown) (x : Shown) → marks_text (xs ++ (x ∷ [])) ≡
 marks_push [] x = append-nil (codes " " ++ mark_text x)
 marks_push (y ∷ ys) x = ap (λ (bs : List ℕ). (codes " " ++ mark_text y) ++ bs) (marks_push ys x) ∙ simp append_assoc
 
-pub line_more : (xs : List Shown) (i : ℕ) (d : Shown) (head a b c text : List ℕ) → i < length xs → a ≡ head ++ marks_text (take i xs) → b ≡ a ++ codes " " → c ≡ b ++ text → text ≡ mark_text (get_or xs i d)
-    → c ≡ head ++ marks_text (take (i + 1) xs)
-line_more xs i d head a b c text l e f g h =
-    g ∙ ap (λ (bs : List ℕ). bs ++ text) (f ∙ ap (λ (bs : List ℕ). bs ++ codes " ") e) ∙ ap (λ (bs : List ℕ). ((head ++ marks_text (take i xs)) ++ codes " ") ++ bs) h
-    ∙ regroup head (marks_text (take i xs)) (codes " ") (mark_text (get_or xs i d))
+pub line_more : (xs : List Shown) (i : ℕ) (d : Shown) (head a b : List ℕ) → i < length xs → a ≡ head ++ marks_text (take i xs) → b ≡ a ++ (codes " " ++ mark_text (get_or xs i d)) → b ≡ head ++ marks_text (take (i + 1) xs)
+line_more xs i d head a b l e f =
+    f ∙ ap (λ (bs : List ℕ). bs ++ (codes " " ++ mark_text (get_or xs i d))) e
+    ∙ append_assoc head (marks_text (take i xs)) (codes " " ++ mark_text (get_or xs i d))
     ∙ ap (λ (bs : List ℕ). head ++ bs) (sym (ap marks_text (take_more xs i d l) ∙ marks_push (take i xs) (get_or xs i d)))
-  where
-    regroup : (a b c d : List ℕ) → ((a ++ b) ++ c) ++ d ≡ a ++ (b ++ (c ++ d))
-    regroup a b c d = simp append_assoc
 
 pub line_all : (xs : List Shown) (i : ℕ) (head a b : List ℕ) → length xs ≤ i → a ≡ head ++ marks_text (take i xs) → b ≡ a ++ codes "\n" → b ≡ head ++ (marks_text xs ++ codes "\n")
 line_all xs i head a b l e f = f ∙ ap (λ (bs : List ℕ). bs ++ codes "\n") (e ∙ ap (λ (ys : List Shown). head ++ marks_text ys) (take_all i xs l)) ∙ append_assoc head (marks_text xs) (codes "\n")

@@ -1,7 +1,7 @@
 // The listing of a judged game as text.
 #![tactic(auto)]
 
-ghost use Rattle.std.specs.Prelude.{◌≡◌, cond, List, ◌++◌, length, is_ok, IfOk, string_bytes, codes};
+ghost use Rattle.std.specs.Prelude.{◌≡◌, cond, List, ◌++◌, length, Some, is_ok, IfOk, string_bytes, codes};
 ghost use Rattle.refusal.specs.Numbers.{number_of};
 ghost use Rattle.book.specs.Faults.{number_of as cause_number, word_of};
 ghost use Rattle.listing.specs.Text.{letter as letter_of, number_text, mark_text, marks_text, rule_text, game_text, refused_text, no_game_text, fault_text, listing_text};
@@ -10,6 +10,8 @@ use atl::{Shown, Verdict};
 use book::Fault;
 use refusal::Refusal;
 use std::alloc::{AllocError, Global};
+use std::fmt;
+use std::fmt::{Display, Formatter, Write};
 
 fn letter(verdict: Verdict) -> &'static str
     ensures { result.now ≡ letter_of verdict }
@@ -28,22 +30,41 @@ pub struct Row {
     pub marks: Vec<Shown>,
 }
 
+// The numbers of the first line.
+#[derive(Clone, Copy)]
+pub struct Heading {
+    pub players: u8,
+    pub states: u16,
+    pub start: u8,
+}
+
 // The first line: players, states and start.
-pub fn game_line(heap: Global, players: u8, states: u16, start: u8) -> Result<String, AllocError>
-    ensures { IfOk result (λ s. string_bytes s ≡ game_text players states start) }
+pub fn game_line(heap: Global, heading: Heading) -> Result<String, AllocError>
+    ensures { IfOk result (λ s. string_bytes s ≡ game_text heading.players heading.states heading.start) }
 {
+    let Heading {
+        players,
+        states,
+        start,
+    } = heading;
     format!(in heap; "game {players} {states} {start}\n")
 }
 
-fn mark(heap: Global, shown: Shown) -> Result<String, AllocError>
-    ensures { IfOk result (λ s. string_bytes s ≡ mark_text shown) }
-{
-    let verdict = letter(shown.verdict);
-    let number = shown.number;
-    if number == 256 {
-        format!(in heap; "{verdict}-")
-    } else {
-        format!(in heap; "{verdict}{number}")
+// A mark as the listing shows it.
+#[derive(Clone, Copy)]
+struct Mark(Shown);
+
+impl Display for Mark {
+    ghost output = { λ mark. Some (mark_text mark.0) };
+
+    fn fmt<W: Write>(&self, f: &mut Formatter<W>) -> fmt::Result {
+        let verdict = letter(self.0.verdict);
+        let number = self.0.number;
+        if number == 256 {
+            write!(f, "{verdict}-")
+        } else {
+            write!(f, "{verdict}{number}")
+        }
     }
 }
 
@@ -58,9 +79,8 @@ pub fn rule_line(
 {
     let mut line = format!(in heap; "{rule} {rounds}")?;
     for shown in marks {
-        let text = mark(heap, *shown)?;
-        line.push_str(" ")?;
-        line.push_str(text.as_str())?;
+        let mark = Mark(*shown);
+        write!(line, " {mark}")?;
     }
     line.push_str("\n")?;
     Ok(line)
@@ -70,7 +90,7 @@ pub fn rule_line(
 pub fn refused_line(heap: Global, rule: usize, refusal: Refusal) -> Result<String, AllocError>
     ensures { IfOk result (λ s. string_bytes s ≡ refused_text rule (number_of refusal)) }
 {
-    let number = refusal.number();
+    let number = u8::from(refusal);
     format!(in heap; "refused {rule} {number}\n")
 }
 
@@ -78,7 +98,7 @@ pub fn refused_line(heap: Global, rule: usize, refusal: Refusal) -> Result<Strin
 pub fn no_game_line(heap: Global, refusal: Refusal) -> Result<String, AllocError>
     ensures { IfOk result (λ s. string_bytes s ≡ no_game_text (number_of refusal)) }
 {
-    let number = refusal.number();
+    let number = u8::from(refusal);
     format!(in heap; "refused {number}\n")
 }
 
@@ -86,23 +106,16 @@ pub fn no_game_line(heap: Global, refusal: Refusal) -> Result<String, AllocError
 pub fn fault_line(heap: Global, fault: Fault) -> Result<String, AllocError>
     ensures { IfOk result (λ s. string_bytes s ≡ fault_text (cause_number fault.cause) fault.byte (word_of fault.layer)) }
 {
-    let cause = fault.cause.number();
-    let byte = fault.byte;
-    let layer = fault.layer.word();
+    let cause = u8::from(fault.cause);
+    let Fault { byte, layer, .. } = fault;
     format!(in heap; "fault {cause} {byte} {layer}\n")
 }
 
 // The whole listing: the game, then a line for each rule, counted from 0.
-pub fn listing(
-    heap: Global,
-    players: u8,
-    states: u16,
-    start: u8,
-    rows: &[Row],
-) -> Result<String, AllocError>
-    ensures { IfOk result (λ s. string_bytes s ≡ listing_text players states start rows.now) }
+pub fn listing(heap: Global, heading: Heading, rows: &[Row]) -> Result<String, AllocError>
+    ensures { IfOk result (λ s. string_bytes s ≡ listing_text heading.players heading.states heading.start rows.now) }
 {
-    let mut text = game_line(heap, players, states, start)?;
+    let mut text = game_line(heap, heading)?;
     for (rule, row) in rows.iter().enumerate() {
         let line = rule_line(heap, rule, row.rounds, row.marks.as_slice())?;
         text.push_str(line.as_str())?;

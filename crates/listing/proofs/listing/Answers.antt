@@ -10,4 +10,4 @@ loop-rule-preserved c =
 
 pub returns : goal.returns
 returns c =
-    rows_all c.args.rows.now c.loop-rule.rule (string_bytes c.in_ok-text.text) (game_text c.args.players c.args.states c.args.start) (string_bytes c.loop-rule.text) c.loop-rule-test.false c.in_ok-text.ensures c.loop-rule.invariant
+    rows_all c.args.rows.now c.loop-rule.rule (string_bytes c.in_ok-text.text) (game_text c.args.heading.players c.args.heading.states c.args.heading.start) (string_bytes c.loop-rule.text) c.loop-rule-test.false c.in_ok-text.ensures c.loop-rule.invariant
