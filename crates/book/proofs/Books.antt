@@ -2,7 +2,7 @@
 use Rattle.std.proofs.Common.{ℕ, List, drop, subst}
 use Rattle.book.specs.declared.fault.Fault.{Fault}
 use Rattle.book.specs.declared.field.FieldReader.{FieldReader}
-use Rattle.book.specs.declared.record.Heading.{Heading}
+use Rattle.book.specs.declared.heading.Heading.{Heading}
 use Rattle.book.specs.declared.rules.Rules.{Rules}
 use Rattle.book.specs.Tests.{Tests, Passes, Fails, each}
 use Rattle.book.specs.Fields.{value, spot}

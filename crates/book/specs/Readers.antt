@@ -1,11 +1,11 @@
 -- What a reader stands over, and what it yields.
-use Rattle.std.specs.Prelude.{◌≡◌, ℕ, ◌+◌, ◌≤◌, List, length, drop, slice_index}
+use Rattle.std.specs.Prelude.{◌≡◌, ℕ, ◌+◌, List, drop, slice_index}
 use Rattle.game.specs.Structure.{Structure, Limits}
 use Rattle.book.specs.declared.book.UnreadBook.{UnreadBook}
 use Rattle.book.specs.declared.field.Field.{Field}
 use Rattle.book.specs.declared.field.FieldReader.{FieldReader}
 use Rattle.book.specs.declared.filed.FiledBook.{FiledBook}
-use Rattle.book.specs.declared.record.Heading.{Heading}
+use Rattle.book.specs.declared.heading.Heading.{Heading}
 use Rattle.book.specs.declared.rules.Rules.{Rules}
 use Rattle.book.specs.Fields.{after, value, spot}
 use Rattle.book.specs.Layout.{players_in, states_in, start_in, rules_from}
@@ -46,10 +46,9 @@ pub record Headed (r s : FieldReader) (h : Heading) : Type 0 where
 abbrev pub Went : {X : Type 0} → FieldReader → FieldReader → X → Type 0
 Went r s x = Passed r s
 
--- the reader went over n fields, all of them whole
-pub record WentOver {X : Type 0} (n : ℕ) (r s : FieldReader) (x : X) : Type 0 where
-  pub stands : Stands (bytes_of r) (spot (bytes_of r) r.at n) s
-  pub whole : s.at ≤ length (bytes_of r)
+-- the reader went over n fields
+abbrev pub WentOver : {X : Type 0} → ℕ → FieldReader → FieldReader → X → Type 0
+WentOver n r s x = Stands (bytes_of r) (spot (bytes_of r) r.at n) s
 
 abbrev pub unread : UnreadBook → List ℕ
 unread b = b.bytes.now

@@ -8,6 +8,13 @@ use Rattle.book.specs.Tests.{Tests, each}
 abbrev pub Within : ℕ → ℕ → ℕ → Type 0
 Within low high n = (low ≤ n) × (n ≤ high)
 
+-- the tag t is the one that is due, and the value v has n bytes
+abbrev pub tag_test : ℕ → ℕ → ℕ → Tests
+tag_test due t p = (t ≡ due, fault OtherTag p) ∷ []
+
+abbrev pub length_test : ℕ → List ℕ → ℕ → Tests
+length_test n v p = (length v ≡ n, fault WrongLength p) ∷ []
+
 -- a heading's value v: the players, the states less one, the start
 abbrev pub heading_tests : ℕ → List ℕ → ℕ → Tests
 heading_tests t v p =

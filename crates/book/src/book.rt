@@ -1,6 +1,6 @@
 // The whole book.
-ghost use Rattle.std.specs.Prelude.{◌≡◌, ◌≤◌, length, drop};
-ghost use Rattle.book.specs.Tests.{Judged, each, Anything, OneVerdict};
+ghost use Rattle.std.specs.Prelude.{◌≡◌, ℕ, ◌<◌, length, drop, slice_index};
+ghost use Rattle.book.specs.Tests.{Judged, each, OneVerdict};
 ghost use Rattle.book.specs.Layout.{states_tests, all_rules, length_tests, parts_tests, book_tests, list_tests};
 ghost use Rattle.book.specs.Readers.{bytes_of, unread, Stands, Over, WentOver, FiledFrom};
 ghost use Rattle.book.specs.Reading.{Read, OneContent, ReadRules, OneList};
@@ -8,6 +8,7 @@ ghost use Rattle.book.specs.Reading.{Read, OneContent, ReadRules, OneList};
 use crate::fault::{Cause, Fault};
 use crate::field::{FieldReader, largest};
 use crate::filed::FiledBook;
+use crate::heading::Heading;
 use crate::record::RecordReader;
 use crate::rules::Rules;
 
@@ -18,29 +19,33 @@ struct BookReader<'a> {
 }
 
 impl<'a> BookReader<'a> {
-    fn new(bytes: &'a [u8]) -> BookReader<'a>
-        ensures { Stands bytes.now 0 result.records.fields }
+    // A reader at the start of the bytes, where there are few enough for a book.
+    fn open(bytes: &'a [u8]) -> Result<BookReader<'a>, Fault>
+        ensures verdict { Judged (length_tests bytes.now) result (λ reader. Stands bytes.now 0 reader.records.fields) }
+        ensures small { (i : ℕ) → i < length bytes.now → slice_index bytes.now i < 256 }
     {
-        let fields = FieldReader::new(bytes);
-        BookReader {
-            records: RecordReader { fields },
+        let _ = largest(bytes);
+        if bytes.len() > 65535 {
+            return Err(Fault::at(Cause::TooLong, 0));
         }
+        let fields = FieldReader::new(bytes);
+        Ok(BookReader {
+            records: RecordReader { fields },
+        })
     }
 
     // The states, from here on.
-    fn states(&mut self, players: u8, states: u16) -> Result<(), Fault>
-        requires { (self.old.records.fields.at ≤ length (bytes_of self.old.records.fields)) × ((length (bytes_of self.old.records.fields) ≤ 65535) × (players ≤ 6)) }
-        ensures { Judged (each states (states_tests players states (bytes_of self.old.records.fields) self.old.records.fields.at)) result (WentOver states self.old.records.fields self.new.records.fields) }
+    fn states(&mut self, heading: Heading) -> Result<(), Fault>
+        ensures { Judged (each heading.states (states_tests heading.players heading.states (bytes_of self.old.records.fields) self.old.records.fields.at)) result (WentOver heading.states self.old.records.fields self.new.records.fields) }
     {
-        for _k in 0..states {
-            self.records.state(players, states)?;
+        for _k in 0..heading.states {
+            self.records.state(heading)?;
         }
         Ok(())
     }
 
     // The rules, from here to the end.
     fn rules(&mut self) -> Result<Rules<'a>, Fault>
-        requires { self.old.records.fields.at ≤ length (bytes_of self.old.records.fields) }
         ensures { Judged (all_rules (bytes_of self.old.records.fields) self.old.records.fields.at) result (Over (drop self.old.records.fields.at (bytes_of self.old.records.fields))) }
     {
         let rules = Rules {
@@ -54,12 +59,12 @@ impl<'a> BookReader<'a> {
 
     // The heading, the states and the rules.
     fn book(&mut self) -> Result<FiledBook<'a>, Fault>
-        requires { (self.old.records.fields.at ≡ 0) × (length (bytes_of self.old.records.fields) ≤ 65535) }
+        requires { self.old.records.fields.at ≡ 0 }
         ensures { Judged (parts_tests (bytes_of self.old.records.fields)) result (FiledFrom (bytes_of self.old.records.fields)) }
     {
         let bytes = self.records.fields.bytes;
         let heading = self.records.heading()?;
-        self.states(heading.players, heading.states)?;
+        self.states(heading)?;
         let rules = self.rules()?;
         Ok(FiledBook {
             bytes,
@@ -69,16 +74,6 @@ impl<'a> BookReader<'a> {
             rules,
         })
     }
-}
-
-// There are few enough bytes for a book.
-fn short_enough(bytes: &[u8]) -> Result<(), Fault>
-    ensures { Judged (length_tests bytes.now) result Anything }
-{
-    if bytes.len() > 65535 {
-        return Err(Fault::at(Cause::TooLong, 0));
-    }
-    Ok(())
 }
 
 // Bytes that may be a book.
@@ -95,9 +90,8 @@ impl<'a> UnreadBook<'a> {
         ensures content { Read (unread self.now) result }
         ensures one_content { OneContent (unread self.now) }
     {
-        let _ = largest(self.bytes);
-        short_enough(self.bytes)?;
-        BookReader::new(self.bytes).book()
+        let mut reader = BookReader::open(self.bytes)?;
+        reader.book()
     }
 }
 
@@ -108,7 +102,6 @@ pub fn read_rules(bytes: &[u8]) -> Result<Rules<'_>, Fault>
     ensures content { ReadRules bytes.now result }
     ensures one_list { OneList bytes.now }
 {
-    let _ = largest(bytes);
-    short_enough(bytes)?;
-    BookReader::new(bytes).rules()
+    let mut reader = BookReader::open(bytes)?;
+    reader.rules()
 }

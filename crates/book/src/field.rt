@@ -1,17 +1,40 @@
 // The fields of a book.
-ghost use Rattle.std.specs.Prelude.{ℕ, ◌<◌, ◌≤◌, length, MatchBool, slice_index};
-ghost use Rattle.book.specs.Tests.{Judged};
-ghost use Rattle.book.specs.Fields.{field_tests, due_tests};
-ghost use Rattle.book.specs.Readers.{bytes_of, Stands, Yields};
+ghost use Rattle.std.specs.Prelude.{ℕ, ◌+◌, ◌^◌, ◌<◌, ◌≤◌, length, slice_index};
 
 use crate::fault::{Cause, Fault};
 
-// A field: its tag, its value, which is a part of the book's own bytes, and the byte of its tag.
+// A field: its tag, its value, which is a part of the book's own bytes, and the byte of its tag. Each byte of it has a number.
 #[derive(Clone, Copy)]
 pub(crate) struct Field<'a> {
     pub(crate) tag: u8,
     pub(crate) value: &'a [u8],
     pub(crate) at: usize,
+    ghost numbered: { at + 3 + length value.now < 2 ^ 64 },
+}
+
+impl Field<'_> {
+    ghost use Rattle.book.specs.Tests.{Judged, Anything};
+    ghost use Rattle.book.specs.Records.{tag_test, length_test};
+
+    // The tag is the one that is due.
+    pub(crate) fn tagged(self, due: u8) -> Result<(), Fault>
+        ensures { Judged (tag_test due self.entry.tag self.entry.at) result Anything }
+    {
+        if self.tag != due {
+            return Err(Fault::at(Cause::OtherTag, self.at));
+        }
+        Ok(())
+    }
+
+    // The value has so many bytes.
+    pub(crate) fn sized(self, size: usize) -> Result<(), Fault>
+        ensures { Judged (length_test size self.entry.value.now self.entry.at) result Anything }
+    {
+        if self.value.len() != size {
+            return Err(Fault::at(Cause::WrongLength, self.at));
+        }
+        Ok(())
+    }
 }
 
 // Yields one field after another.
@@ -19,9 +42,15 @@ pub(crate) struct Field<'a> {
 pub(crate) struct FieldReader<'a> {
     pub(crate) bytes: &'a [u8],
     pub(crate) at: usize,
+    ghost inside: { at ≤ length bytes.now },
 }
 
 impl<'a> FieldReader<'a> {
+    ghost use Rattle.std.specs.Prelude.{◌≡◌, MatchBool};
+    ghost use Rattle.book.specs.Tests.{Judged};
+    ghost use Rattle.book.specs.Fields.{field_tests, due_tests};
+    ghost use Rattle.book.specs.Readers.{bytes_of, Stands, Yields};
+
     pub(crate) fn new(bytes: &'a [u8]) -> FieldReader<'a>
         ensures { Stands bytes.now 0 result }
     {
@@ -29,9 +58,9 @@ impl<'a> FieldReader<'a> {
     }
 
     pub(crate) fn ended(&self) -> bool
-        ensures { MatchBool result (length (bytes_of self.now) ≤ self.now.at) (self.now.at < length (bytes_of self.now)) }
+        ensures { MatchBool result (self.now.at ≡ length (bytes_of self.now)) (self.now.at < length (bytes_of self.now)) }
     {
-        self.at >= self.bytes.len()
+        self.at == self.bytes.len()
     }
 
     // The field that stands here.
@@ -39,19 +68,17 @@ impl<'a> FieldReader<'a> {
         ensures { Judged (field_tests (bytes_of self.old) self.old.at) result (Yields self.old self.new) }
     {
         let at = self.at;
-        let room = self.bytes.len().saturating_sub(at);
-        if room < 3 {
+        let [tag, high, low, rest @ ..] = &self.bytes[at..] else {
             return Err(Fault::at(Cause::Cut, at));
-        }
-        let size = self.bytes[at + 1] as usize * 256 + self.bytes[at + 2] as usize;
-        if room - 3 < size {
+        };
+        let size = usize::from(u16::from_be_bytes([*high, *low]));
+        let Some(value) = rest.get(..size) else {
             return Err(Fault::at(Cause::Cut, at));
-        }
-        let start = at + 3;
-        self.at = start + size;
+        };
+        self.at = at + 3 + size;
         Ok(Field {
-            tag: self.bytes[at],
-            value: &self.bytes[start..start + size],
+            tag: *tag,
+            value,
             at,
         })
     }

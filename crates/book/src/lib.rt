@@ -5,6 +5,7 @@ mod book;
 mod fault;
 mod field;
 mod filed;
+mod heading;
 mod record;
 mod rules;
 

@@ -1,110 +1,66 @@
 // The records of a book: what the value of a field says.
-ghost use Rattle.std.specs.Prelude.{◌≡◌, ◌+◌, ◌≤◌, length};
+ghost use Rattle.std.specs.Prelude.{◌≡◌, ◌+◌, ◌-◌, ◌≤◌, length};
 ghost use Rattle.book.specs.Tests.{Judged, each, Anything};
-ghost use Rattle.book.specs.Records.{heading_tests, state_tests, rule_tests, count_tests, next_tests, Multiplied};
+ghost use Rattle.book.specs.Records.{state_tests, rule_tests, count_tests, next_tests, Multiplied};
 ghost use Rattle.book.specs.Layout.{heading_at, state_at, rule_at};
-ghost use Rattle.book.specs.Readers.{bytes_of, Heads, Headed, Went};
+ghost use Rattle.book.specs.Readers.{bytes_of, Headed, Went};
 
 use crate::fault::{Cause, Fault};
 use crate::field::{Field, FieldReader};
-
-#[derive(Clone, Copy)]
-pub(crate) struct Heading {
-    pub(crate) players: u8,
-    pub(crate) states: u16,
-    pub(crate) start: u8,
-}
-
-impl Heading {
-    fn read(field: Field<'_>) -> Result<Heading, Fault>
-        requires { field.at ≤ 65535 }
-        ensures { Judged (heading_tests field.entry.tag field.entry.value.now field.entry.at) result (Heads field.entry.value.now) }
-    {
-        if field.tag != 1 {
-            return Err(Fault::at(Cause::OtherTag, field.at));
-        }
-        if field.value.len() != 3 {
-            return Err(Fault::at(Cause::WrongLength, field.at));
-        }
-        let players = field.value[0];
-        let states = field.value[1] as u16 + 1;
-        let start = field.value[2];
-        if players < 1 || players > 6 {
-            return Err(Fault::at(Cause::OutOfRange, field.at + 3));
-        }
-        if start as u16 >= states {
-            return Err(Fault::at(Cause::OutOfRange, field.at + 5));
-        }
-        Ok(Heading {
-            players,
-            states,
-            start,
-        })
-    }
-}
+use crate::heading::Heading;
 
 // A rule has four bytes.
 fn rule(field: Field<'_>) -> Result<(), Fault>
     ensures { Judged (rule_tests field.entry.tag field.entry.value.now field.entry.at) result Anything }
 {
-    if field.tag != 3 {
-        return Err(Fault::at(Cause::OtherTag, field.at));
-    }
-    if field.value.len() != 4 {
-        return Err(Fault::at(Cause::WrongLength, field.at));
-    }
-    Ok(())
+    field.tagged(3)?;
+    field.sized(4)
 }
 
 // The product of the counts of moves.
-fn counts(players: u8, field: Field<'_>) -> Result<usize, Fault>
-    requires { (players ≤ 6) × ((field.at ≤ 65535) × (2 + players ≤ length field.value.now)) }
-    ensures { Judged (each players (count_tests field.entry.value.now field.entry.at)) result (Multiplied players field.entry.value.now) }
+fn counts(heading: Heading, field: Field<'_>) -> Result<usize, Fault>
+    requires { 2 + heading.players ≤ length field.value.now }
+    ensures { Judged (each heading.players (count_tests field.entry.value.now field.entry.at)) result (Multiplied heading.players field.entry.value.now) }
 {
+    let players = usize::from(heading.players);
     let mut product: usize = 1;
-    for i in 0..players as usize {
-        let count = field.value[2 + i];
-        if count < 1 || count > 15 {
+    for (i, count) in field.value[2..2 + players].iter().enumerate() {
+        if !(1..=15).contains(count) {
             return Err(Fault::at(Cause::OutOfRange, field.at + 5 + i));
         }
-        product = count as usize * product;
+        product *= usize::from(*count);
     }
     Ok(product)
 }
 
 // Each next state is one of the game's.
-fn nexts(players: u8, states: u16, product: usize, field: Field<'_>) -> Result<(), Fault>
-    requires { (players ≤ 6) × ((product ≤ 4096) × ((field.at ≤ 65535) × (length field.value.now ≡ 2 + players + product))) }
-    ensures { Judged (each product (next_tests players states field.entry.value.now field.entry.at)) result Anything }
+fn nexts(heading: Heading, field: Field<'_>) -> Result<(), Fault>
+    requires { 2 + heading.players ≤ length field.value.now }
+    ensures { Judged (each (length field.entry.value.now - (2 + heading.players)) (next_tests heading.players heading.states field.entry.value.now field.entry.at)) result Anything }
 {
-    let first = 2 + players as usize;
-    for j in 0..product {
-        if field.value[first + j] as u16 >= states {
+    let first = 2 + usize::from(heading.players);
+    for (j, next) in field.value[first..].iter().enumerate() {
+        if u16::from(*next) >= heading.states {
             return Err(Fault::at(Cause::OutOfRange, field.at + 3 + first + j));
         }
     }
     Ok(())
 }
 
-fn state(players: u8, states: u16, field: Field<'_>) -> Result<(), Fault>
-    requires { (players ≤ 6) × (field.at ≤ 65535) }
-    ensures { Judged (state_tests players states field.entry.tag field.entry.value.now field.entry.at) result Anything }
+fn state(heading: Heading, field: Field<'_>) -> Result<(), Fault>
+    ensures { Judged (state_tests heading.players heading.states field.entry.tag field.entry.value.now field.entry.at) result Anything }
 {
-    if field.tag != 2 {
-        return Err(Fault::at(Cause::OtherTag, field.at));
-    }
-    let least = 2 + players as usize;
+    field.tagged(2)?;
+    let least = 2 + usize::from(heading.players);
     if field.value.len() < least {
         return Err(Fault::at(Cause::WrongLength, field.at));
     }
-    let product = counts(players, field)?;
+    let product = counts(heading, field)?;
     if product > 4096 {
         return Err(Fault::at(Cause::OutOfRange, field.at + 5));
     }
-    if field.value.len() != least + product {
-        return Err(Fault::at(Cause::WrongLength, field.at));
-    }
-    nexts(players, states, product, field)
+    field.sized(least + product)?;
+    nexts(heading, field)
 }
 
 // Reads the records of the fields, one after another.
@@ -115,19 +71,17 @@ pub(crate) struct RecordReader<'a> {
 
 impl RecordReader<'_> {
     pub(crate) fn heading(&mut self) -> Result<Heading, Fault>
-        requires { self.old.fields.at ≤ 65535 }
         ensures { Judged (heading_at (bytes_of self.old.fields) self.old.fields.at) result (Headed self.old.fields self.new.fields) }
     {
         let field = self.fields.due()?;
         Heading::read(field)
     }
 
-    pub(crate) fn state(&mut self, players: u8, states: u16) -> Result<(), Fault>
-        requires { (self.old.fields.at ≤ 65535) × (players ≤ 6) }
-        ensures { Judged (state_at players states (bytes_of self.old.fields) self.old.fields.at) result (Went self.old.fields self.new.fields) }
+    pub(crate) fn state(&mut self, heading: Heading) -> Result<(), Fault>
+        ensures { Judged (state_at heading.players heading.states (bytes_of self.old.fields) self.old.fields.at) result (Went self.old.fields self.new.fields) }
     {
         let field = self.fields.due()?;
-        state(players, states, field)
+        state(heading, field)
     }
 
     pub(crate) fn rule(&mut self) -> Result<(), Fault>

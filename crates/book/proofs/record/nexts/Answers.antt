@@ -1,12 +1,32 @@
-use Rattle.std.proofs.Common.{inl, arith, rules}
+use Rattle.std.proofs.Common.{◌≡◌, ℕ, ap, get_or, ◌+◌, ◌-◌, length, inl, arith, rules, subst, length-take, length-drop}
+use Rattle.book.specs.Tests.{Passes, each}
 use Rattle.book.specs.Records.{next_tests}
 use Rattle.book.proofs.Judging.{each_stop, each_more}
+use Rattle.book.proofs.States.{part_below, part_read}
 use Rattle.book.proofs.record.nexts.Goals as goal
 
-pub returns-then-field-first : goal.returns-then-field-first
-returns-then-field-first c =
-    each_stop c.args.product c.loop-j.j (next_tests c.args.players c.args.states c.args.field.value.now c.args.field.at) c.at.result (omega arith) c.loop-j.invariant (inl (search rules, search rules))
+pub returns-then-from-heading : goal.returns-then-from-heading
+returns-then-from-heading c =
+    let v = c.args.field.value.now in
+    let first : ℕ = 2 + c.from-first.result in
+    let l = part_below v first (length v - first) c.loop-j.j c.loop-j-test.true in
+    let e = part_read v first (length v - first) c.loop-j.j c.loop-j-test.true in
+    let s : first ≡ 2 + c.args.heading.players = omega arith in
+    each_stop (length v - (2 + c.args.heading.players)) c.loop-j.j (next_tests c.args.heading.players c.args.heading.states v c.args.field.at) c.at.result (omega arith) c.loop-j.invariant
+    (inl (λ w. absurd (omega (arith, c.from.ensures, e, ap (λ k. get_or v (k + c.loop-j.j) 0) s)), search rules))
+
+pub returns : goal.returns
+returns c =
+    let v = c.args.field.value.now in
+    let low = simp (length-take, length-drop) at c.loop-j-test.false in
+    let high = simp (length-take, length-drop) at c.loop-j.auto.j-end in
+    let e : c.loop-j.j ≡ length v - (2 + c.args.heading.players) = omega arith in
+    (subst (λ k. Passes (each k (next_tests c.args.heading.players c.args.heading.states v c.args.field.at))) e c.loop-j.invariant, tt)
 
 pub loop-j-preserved : goal.loop-j-preserved
 loop-j-preserved c =
-    each_more c.loop-j.j (next_tests c.args.players c.args.states c.args.field.value.now c.args.field.at) c.loop-j.invariant (search rules, tt)
+    let v = c.args.field.value.now in
+    let first : ℕ = 2 + c.from-first.result in
+    let e = part_read v first (length v - first) c.loop-j.j c.loop-j-test.true in
+    let s : first ≡ 2 + c.args.heading.players = omega arith in
+    each_more c.loop-j.j (next_tests c.args.heading.players c.args.heading.states v c.args.field.at) c.loop-j.invariant (omega (arith, c.from.ensures, e, ap (λ k. get_or v (k + c.loop-j.j) 0) s), tt)

@@ -13,7 +13,7 @@ returns-in_err-states c =
     let bs = c.args.self.now.records.fields.bytes.now in
     let r = c.args.self.now.records.fields in
     let s = c.heading.new.self.fields in
-    let z : Stands bs 0 r = record { over = refl; place = c.requires.0 } in
+    let z : Stands bs 0 r = record { over = refl; place = c.requires } in
     let h = c.in_ok-heading.ensures in
     let f = c.in_err-states.field-0.0 in
     rw (p.1, p.2)
@@ -27,13 +27,13 @@ returns-in_err-rules c =
     let r = c.args.self.now.records.fields in
     let s = c.heading.new.self.fields in
     let t = c.states.new.self.records.fields in
-    let z : Stands bs 0 r = record { over = refl; place = c.requires.0 } in
+    let z : Stands bs 0 r = record { over = refl; place = c.requires } in
     let h = c.in_ok-heading.ensures in
     let j = c.in_ok-states.ensures in
     let f = c.in_err-rules.field-0.0 in
     rw (p.1, p.2)
     (bad_rules bs (here bs 0 r z (λ x n. Passes (heading_at x n)) h.0) (states_here bs r s c.in_ok-heading.heading z h.1 Passes j.0) f
-    (rules_here bs r s c.in_ok-heading.heading z h.1 t j.1.stands (λ ts. Fails ts f) c.in_err-rules.ensures))
+    (rules_here bs r s c.in_ok-heading.heading z h.1 t j.1 (λ ts. Fails ts f) c.in_err-rules.ensures))
 
 pub returns : goal.returns
 returns c =
@@ -41,18 +41,18 @@ returns c =
     let r = c.args.self.now.records.fields in
     let s = c.heading.new.self.fields in
     let t = c.states.new.self.records.fields in
-    let z : Stands bs 0 r = record { over = refl; place = c.requires.0 } in
+    let z : Stands bs 0 r = record { over = refl; place = c.requires } in
     let h = c.in_ok-heading.ensures in
     let j = c.in_ok-states.ensures in
     let k = c.in_ok-rules.ensures in
     let said = heads bs r s c.in_ok-heading.heading z h.1 in (
       good_book bs (here bs 0 r z (λ x n. Passes (heading_at x n)) h.0) (states_here bs r s c.in_ok-heading.heading z h.1 Passes j.0)
-          (rules_here bs r s c.in_ok-heading.heading z h.1 t j.1.stands Passes k.0),
+          (rules_here bs r s c.in_ok-heading.heading z h.1 t j.1 Passes k.0),
       record {
         bytes = search rules;
         players = said.players;
         states = said.states;
         start = said.start;
-        rules = rules_over bs r s c.in_ok-heading.heading z h.1 t j.1.stands c.in_ok-rules.rules k.1;
+        rules = rules_over bs r s c.in_ok-heading.heading z h.1 t j.1 c.in_ok-rules.rules k.1;
       },
     )

@@ -1,4 +1,4 @@
-use Rattle.std.proofs.Common.{ℕ, ◌-◌, ◌≤◌, length}
+use Rattle.std.proofs.Common.{ℕ, ◌-◌, length}
 use Rattle.book.specs.Tests.{Passes, each}
 use Rattle.book.specs.Fields.{spot}
 use Rattle.book.specs.Layout.{rules_tests}
@@ -10,7 +10,6 @@ abbrev pub invariant-loop-self : goal.invariant-loop-self
 invariant-loop-self l =
     (k : ℕ)
     × Stands l.initial.self.records.fields.bytes.now (spot l.initial.self.records.fields.bytes.now l.initial.self.records.fields.at k) l.self.records.fields
-    × (l.self.records.fields.at ≤ length l.initial.self.records.fields.bytes.now)
     × Passes (each k (rules_tests l.initial.self.records.fields.bytes.now l.initial.self.records.fields.at))
 
 abbrev pub decreases-loop-self : goal.decreases-loop-self

@@ -1,4 +1,3 @@
-use Rattle.std.proofs.Common.{◌≤◌, length}
 use Rattle.book.specs.Tests.{Passes, each}
 use Rattle.book.specs.Fields.{spot}
 use Rattle.book.specs.Layout.{states_tests}
@@ -9,5 +8,4 @@ use Rattle.book.proofs.book.BookReader.states.Given as goal
 abbrev pub invariant-loop-k : goal.invariant-loop-k
 invariant-loop-k l =
     Stands l.initial.self.records.fields.bytes.now (spot l.initial.self.records.fields.bytes.now l.initial.self.records.fields.at l._k) l.self.records.fields
-    × (l.self.records.fields.at ≤ length l.initial.self.records.fields.bytes.now)
-    × Passes (each l._k (states_tests l.players l.states l.initial.self.records.fields.bytes.now l.initial.self.records.fields.at))
+    × Passes (each l._k (states_tests l.heading.players l.heading.states l.initial.self.records.fields.bytes.now l.initial.self.records.fields.at))

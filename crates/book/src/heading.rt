@@ -1,0 +1,40 @@
+// The heading of a book.
+ghost use Rattle.std.specs.Prelude.{◌≤◌};
+
+use crate::fault::{Cause, Fault};
+use crate::field::Field;
+
+#[derive(Clone, Copy)]
+pub(crate) struct Heading {
+    pub(crate) players: u8,
+    pub(crate) states: u16,
+    pub(crate) start: u8,
+    ghost few_players: { players ≤ 6 },
+}
+
+impl Heading {
+    ghost use Rattle.book.specs.Tests.{Judged};
+    ghost use Rattle.book.specs.Records.{heading_tests};
+    ghost use Rattle.book.specs.Readers.{Heads};
+
+    pub(crate) fn read(field: Field<'_>) -> Result<Heading, Fault>
+        ensures { Judged (heading_tests field.entry.tag field.entry.value.now field.entry.at) result (Heads field.entry.value.now) }
+    {
+        field.tagged(1)?;
+        field.sized(3)?;
+        let players = field.value[0];
+        let states = u16::from(field.value[1]) + 1;
+        let start = field.value[2];
+        if !(1..=6).contains(&players) {
+            return Err(Fault::at(Cause::OutOfRange, field.at + 3));
+        }
+        if u16::from(start) >= states {
+            return Err(Fault::at(Cause::OutOfRange, field.at + 5));
+        }
+        Ok(Heading {
+            players,
+            states,
+            start,
+        })
+    }
+}
