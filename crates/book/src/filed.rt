@@ -1,5 +1,5 @@
 // A book that was read, as a game.
-ghost use Rattle.std.specs.Prelude.{◌≡◌, ◌+◌, ◌^◌, ◌<◌, ◌≤◌, slice_index};
+ghost use Rattle.std.specs.Prelude.{◌≡◌, ◌+◌, ◌*◌, ◌/◌, ◌%◌, ◌^◌, ◌<◌, ◌≤◌, slice_index};
 ghost use Rattle.game.specs.Lists.{highest};
 ghost use Rattle.book.specs.Fields.{after as after_of};
 ghost use Rattle.book.specs.Filed.{players_kept, states_kept, inside as inside_of, state_spot, count_at, moves_at, place as place_of};
@@ -19,6 +19,14 @@ pub struct FiledBook<'a> {
     pub(crate) rules: Rules<'a>,
 }
 
+// A digit of a number in base 16, the lowest at 0.
+fn digit(number: u32, k: u8) -> u32
+    requires { k < 8 }
+    ensures { result ≡ number / 16 ^ k % 16 }
+{
+    (number >> (4 * k)) % 16
+}
+
 // A vector's place among those under the highest: player 1's move counts fastest.
 fn place(players: u8, most: u32, vector: u32) -> u32
     requires { players ≤ 6 }
@@ -26,15 +34,9 @@ fn place(players: u8, most: u32, vector: u32) -> u32
     ensures near { result < 2 ^ 24 }
 {
     let mut place: u32 = 0;
-    let mut weight: u32 = 1;
-    let mut limits = most;
-    let mut rest = vector;
-    for _i in 0..players {
-        let before = (rest % 16).max(1) - 1;
-        place += before * weight;
-        weight *= limits % 16;
-        limits /= 16;
-        rest /= 16;
+    for k in (0..players).rev() {
+        let before = digit(vector, k).max(1) - 1;
+        place = before + digit(most, k) * place;
     }
     place
 }
@@ -51,29 +53,33 @@ impl<'a> FiledBook<'a> {
     fn byte(&self, i: usize) -> u8
         ensures { result ≡ slice_index self.now.bytes.now i }
     {
-        if i < self.bytes.len() {
-            self.bytes[i]
-        } else {
-            0
-        }
+        self.bytes.get(i).copied().unwrap_or(0)
+    }
+
+    // Two bytes as a number, the highest first.
+    fn number(&self, i: usize) -> u16
+        requires { i < 2 ^ 48 }
+        ensures { result ≡ slice_index self.now.bytes.now i * 256 + slice_index self.now.bytes.now (i + 1) }
+    {
+        u16::from_be_bytes([self.byte(i), self.byte(i + 1)])
     }
 
     fn player_count(&self) -> u8
         ensures { result ≡ players_kept self.now.players }
     {
-        self.players.min(6).max(1)
+        self.players.clamp(1, 6)
     }
 
     fn state_count(&self) -> u16
         ensures { result ≡ states_kept self.now.states }
     {
-        self.states.min(256).max(1)
+        self.states.clamp(1, 256)
     }
 
     fn inside(&self, state: u8) -> u8
         ensures { result ≡ inside_of (states_kept self.now.states) state }
     {
-        if (state as u16) < self.state_count() {
+        if u16::from(state) < self.state_count() {
             state
         } else {
             0
@@ -86,7 +92,7 @@ impl<'a> FiledBook<'a> {
         ensures is { result ≡ after_of self.now.bytes.now at }
         ensures near { result ≤ at + 65538 }
     {
-        at + 3 + (self.byte(at + 1) as usize * 256 + self.byte(at + 2) as usize)
+        at + 3 + usize::from(self.number(at + 1))
     }
 
     // Where the state's field stands.
@@ -104,10 +110,11 @@ impl<'a> FiledBook<'a> {
     fn count(&self, at: usize, player: u8) -> u8
         requires { at < 2 ^ 32 }
         ensures is { result ≡ count_at self.now.bytes.now at player }
-        ensures range { (1 ≤ result) × (result ≤ 15) }
+        ensures some { 1 ≤ result }
+        ensures few { result ≤ 15 }
     {
-        let count = self.byte(at + 4 + player as usize);
-        if 1 <= count && count <= 15 { count } else { 1 }
+        let count = self.byte(at + 4 + usize::from(player));
+        if (1..=15).contains(&count) { count } else { 1 }
     }
 
     // The counts of the state whose field is at `at`, four bits a player, each read once.
@@ -118,13 +125,11 @@ impl<'a> FiledBook<'a> {
         let mut most: u32 = 0;
         let mut ones: u32 = 0;
         let mut product: u32 = 1;
-        let mut weight: u32 = 1;
-        for i in 0..self.player_count() {
-            let count = self.count(at, i + 1) as u32;
-            most += count * weight;
-            ones += weight;
-            product = count * product;
-            weight *= 16;
+        for k in (0..self.player_count()).rev() {
+            let count = u32::from(self.count(at, k + 1));
+            most = most * 16 + count;
+            ones = ones * 16 + 1;
+            product *= count;
         }
         if product <= 4096 { most } else { ones }
     }
@@ -144,24 +149,23 @@ impl Game for FiledBook<'_> {
     }
 
     fn moves(&self, player: u8, state: u8) -> u8 {
-        if 1 <= player && player <= self.player_count() && (state as u16) < self.state_count() {
-            ((self.most(self.spot(state)) >> (4 * (player - 1))) % 16) as u8
+        if 1 <= player && player <= self.player_count() && u16::from(state) < self.state_count() {
+            digit(self.most(self.spot(state)), player - 1) as u8
         } else {
             0
         }
     }
 
     fn labels(&self, state: u8) -> u16 {
-        if (state as u16) < self.state_count() {
-            let at = self.spot(state);
-            self.byte(at + 3) as u16 * 256 + self.byte(at + 4) as u16
+        if u16::from(state) < self.state_count() {
+            self.number(self.spot(state) + 3)
         } else {
             0
         }
     }
 
     fn next(&self, state: u8, vector: u32) -> Option<u8> {
-        if state as u16 >= self.state_count() {
+        if u16::from(state) >= self.state_count() {
             return None;
         }
         let at = self.spot(state);
@@ -170,7 +174,7 @@ impl Game for FiledBook<'_> {
         if !is_under(players, most, vector) {
             return None;
         }
-        let next = self.byte(at + 5 + players as usize + place(players, most, vector) as usize);
+        let next = self.byte(at + 5 + usize::from(players) + place(players, most, vector) as usize);
         Some(self.inside(next))
     }
 }
