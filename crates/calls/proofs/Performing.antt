@@ -1,5 +1,5 @@
 -- One call after another.
-use Rattle.std.proofs.Common.{◌≡◌, ℕ, ◌+◌, ◌<◌, ◌≤◌, Bool, List, [], ◌∷◌, ◌++◌, length, get_or, take, Ok, Err, Result, sym, refl, ap, ◌∙◌, subst, ap₂, arith}
+use Rattle.std.proofs.Common.{MatchResult, IsOkAnd, ◌≡◌, ℕ, ◌+◌, ◌<◌, ◌≤◌, Bool, List, [], ◌∷◌, ◌++◌, length, get_or, take, Ok, Err, Result, sym, refl, ap, ◌∙◌, subst, ap₂, arith}
 use Rattle.std.proofs.lemmas.List.{take_all, take_more}
 use Rattle.game.specs.Structure.{Structure, Limits}
 use Rattle.refusal.specs.declared.Refusal.{Refusal}
@@ -13,11 +13,20 @@ use Rattle.calls.specs.declared.types.Call.{Call}
 use Rattle.calls.specs.declared.types.Call.TheVariants.{Write, Round, Erase, Ask, Tell, Play, Copy}
 use Rattle.calls.specs.declared.types.Answer.{Answer}
 use Rattle.calls.specs.declared.types.Answer.TheVariants.{Refused, Number, Marked, Says, Choice, Copied}
-use Rattle.calls.specs.Histories.{given, told, answer, left_in, after, History, stack, Answered, then, history, answers, left_after}
+use Rattle.calls.specs.Histories.{given, answered, told, answer, left_in, after, History, stack, Answered, then, history, answers, left_after}
 use Rattle.calls.specs.Law.{Law}
 use Rattle.calls.specs.Performing.{DoesCall, Performs}
 use Rattle.calls.proofs.Possible.{next, after_next}
 use Rattle.calls.proofs.Lawful.{law}
+
+-- what a method gives becomes the answer by f
+abbrev Becomes : {A : Type 0} → (A → Answer) → Result A Refusal → Result Answer Refusal → Type 0
+Becomes f x r = MatchResult x (λ v. IsOkAnd r (λ a. a ≡ f v)) (λ e. r ≡ Err e)
+
+given_by : {A : Type 0} (f : A → Answer) (r : Result Answer Refusal) (x : Result A Refusal) → Becomes f x r → answered r ≡ given f x
+given_by f (Ok a) (Ok v) h = h
+given_by f (Err e) (Ok v) h = absurd h
+given_by f r (Err e) h = ap answered h
 
 -- An answer that is no refusal.
 abbrev Gives : {A : Type 0} → (A → Answer) → Type 0
@@ -68,28 +77,28 @@ gives_copied v e i = let z : ◌≡◌ {A = ℕ} 0 1 = cc in omega arith
 kept_by : {A : Type 0} (x : Result A Refusal) (e : Refusal) (b b' : List ℕ) → KeptIfRefused x b b' → x ≡ Err e → b' ≡ b
 kept_by x e b b' k i = subst (λ (y : Result _ Refusal). KeptIfRefused y b b') i k
 
-module _ (m : Structure) (t t' : Table) (b : List ℕ) (a : Answer) (c : Call) where
-  pub writes : (kind A r s : ℕ) → c ≡ Write kind A r s → (x : Result ℕ Refusal) → Does m (write_answer m kind A r s) (write_after m kind A r s) t t' x → a ≡ given Number x → DoesCall m c t t' b b a
-  writes kind A r s i x d e = subst (λ (y : Call). DoesCall m y t t' b b a) (sym i) (by_method m t t' b b a Number gives_number _ _ x d e (Write kind A r s) (λ st. refl) (λ st. refl) (λ st s. refl) (λ r j. refl))
+module _ (m : Structure) (t t' : Table) (b : List ℕ) (g : Result Answer Refusal) (c : Call) where
+  pub writes : (kind A r s : ℕ) → c ≡ Write kind A r s → (x : Result ℕ Refusal) → Does m (write_answer m kind A r s) (write_after m kind A r s) t t' x → Becomes Number x g → DoesCall m c t t' b b (answered g)
+  writes kind A r s i x d e = subst (λ (y : Call). DoesCall m y t t' b b (answered g)) (sym i) (by_method m t t' b b (answered g) Number gives_number _ _ x d (given_by Number g x e) (Write kind A r s) (λ st. refl) (λ st. refl) (λ st s. refl) (λ r j. refl))
 
-  pub erases : c ≡ Erase → (x : Result ℕ Refusal) → Does m erase_answer erase_after t t' x → a ≡ given Number x → DoesCall m c t t' b b a
-  erases i x d e = subst (λ (y : Call). DoesCall m y t t' b b a) (sym i) (by_method m t t' b b a Number gives_number _ _ x d e Erase (λ st. refl) (λ st. refl) (λ st s. refl) (λ r j. refl))
+  pub erases : c ≡ Erase → (x : Result ℕ Refusal) → Does m erase_answer erase_after t t' x → Becomes Number x g → DoesCall m c t t' b b (answered g)
+  erases i x d e = subst (λ (y : Call). DoesCall m y t t' b b (answered g)) (sym i) (by_method m t t' b b (answered g) Number gives_number _ _ x d (given_by Number g x e) Erase (λ st. refl) (λ st. refl) (λ st s. refl) (λ r j. refl))
 
-  pub rounds : (n : ℕ) → c ≡ Round n → (x : Result ℕ Refusal) → Does m (round_answer m n) (round_after m n) t t' x → a ≡ given Marked x → DoesCall m c t t' b b a
-  rounds n i x d e = subst (λ (y : Call). DoesCall m y t t' b b a) (sym i) (by_method m t t' b b a Marked gives_marked _ _ x d e (Round n) (λ st. refl) (λ st. refl) (λ st s. refl) (λ r j. refl))
+  pub rounds : (n : ℕ) → c ≡ Round n → (x : Result ℕ Refusal) → Does m (round_answer m n) (round_after m n) t t' x → Becomes Marked x g → DoesCall m c t t' b b (answered g)
+  rounds n i x d e = subst (λ (y : Call). DoesCall m y t t' b b (answered g)) (sym i) (by_method m t t' b b (answered g) Marked gives_marked _ _ x d (given_by Marked g x e) (Round n) (λ st. refl) (λ st. refl) (λ st s. refl) (λ r j. refl))
 
-module _ (m : Structure) (t : Table) (b : List ℕ) (a : Answer) (c : Call) where
-  pub asks : (n q : ℕ) → c ≡ Ask n q → (x : Result Shown Refusal) → Answers m (ask_answer m n q) t x → a ≡ given Says x → DoesCall m c t t b b a
-  asks n q i x d e = subst (λ (y : Call). DoesCall m y t t b b a) (sym i) (by_method m t t b b a Says gives_says _ _ x (unchanging m (ask_answer m n q) t x d) e (Ask n q) (λ st. refl) (λ st. refl) (λ st s. refl) (λ r j. refl))
+module _ (m : Structure) (t : Table) (b : List ℕ) (g : Result Answer Refusal) (c : Call) where
+  pub asks : (n q : ℕ) → c ≡ Ask n q → (x : Result Shown Refusal) → Answers m (ask_answer m n q) t x → Becomes Says x g → DoesCall m c t t b b (answered g)
+  asks n q i x d e = subst (λ (y : Call). DoesCall m y t t b b (answered g)) (sym i) (by_method m t t b b (answered g) Says gives_says _ _ x (unchanging m (ask_answer m n q) t x d) (given_by Says g x e) (Ask n q) (λ st. refl) (λ st. refl) (λ st s. refl) (λ r j. refl))
 
-  pub tells : (n : ℕ) → c ≡ Tell n → (x : Result (ℕ × Bool) Refusal) → Answers m (tell_answer m n) t x → a ≡ given told x → DoesCall m c t t b b a
-  tells n i x d e = subst (λ (y : Call). DoesCall m y t t b b a) (sym i) (by_method m t t b b a told gives_told _ _ x (unchanging m (tell_answer m n) t x d) e (Tell n) (λ st. refl) (λ st. refl) (λ st s. refl) (λ r j. refl))
+  pub tells : (n : ℕ) → c ≡ Tell n → (x : Result (ℕ × Bool) Refusal) → Answers m (tell_answer m n) t x → Becomes told x g → DoesCall m c t t b b (answered g)
+  tells n i x d e = subst (λ (y : Call). DoesCall m y t t b b (answered g)) (sym i) (by_method m t t b b (answered g) told gives_told _ _ x (unchanging m (tell_answer m n) t x d) (given_by told g x e) (Tell n) (λ st. refl) (λ st. refl) (λ st s. refl) (λ r j. refl))
 
-  pub plays : (n q : ℕ) → c ≡ Play n q → (x : Result ℕ Refusal) → Answers m (play_answer m n q) t x → a ≡ given Choice x → DoesCall m c t t b b a
-  plays n q i x d e = subst (λ (y : Call). DoesCall m y t t b b a) (sym i) (by_method m t t b b a Choice gives_choice _ _ x (unchanging m (play_answer m n q) t x d) e (Play n q) (λ st. refl) (λ st. refl) (λ st s. refl) (λ r j. refl))
+  pub plays : (n q : ℕ) → c ≡ Play n q → (x : Result ℕ Refusal) → Answers m (play_answer m n q) t x → Becomes Choice x g → DoesCall m c t t b b (answered g)
+  plays n q i x d e = subst (λ (y : Call). DoesCall m y t t b b (answered g)) (sym i) (by_method m t t b b (answered g) Choice gives_choice _ _ x (unchanging m (play_answer m n q) t x d) (given_by Choice g x e) (Play n q) (λ st. refl) (λ st. refl) (λ st s. refl) (λ r j. refl))
 
-  pub copies : (n place : ℕ) → c ≡ Copy n place → (b' : List ℕ) (x : Result ℕ Refusal) → Answers m (copy_answer m n place (length b)) t x → Buffered m t n place b b' → KeptIfRefused x b b' → a ≡ given Copied x → DoesCall m c t t b b' a
-  copies n place i b' x d w k e = subst (λ (y : Call). DoesCall m y t t b b' a) (sym i) (by_method m t t b b' a Copied gives_copied _ _ x (unchanging m (copy_answer m n place (length b)) t x d) e (Copy n place) (λ st. refl) (λ st. refl) w (λ r j. kept_by x r b b' k j))
+  pub copies : (n place : ℕ) → c ≡ Copy n place → (b' : List ℕ) (x : Result ℕ Refusal) → Answers m (copy_answer m n place (length b)) t x → Buffered m t n place b b' → KeptIfRefused x b b' → Becomes Copied x g → DoesCall m c t t b b' (answered g)
+  copies n place i b' x d w k e = subst (λ (y : Call). DoesCall m y t t b b' (answered g)) (sym i) (by_method m t t b b' (answered g) Copied gives_copied _ _ x (unchanging m (copy_answer m n place (length b)) t x d) (given_by Copied g x e) (Copy n place) (λ st. refl) (λ st. refl) w (λ r j. kept_by x r b b' k j))
 
 -- One call more at the end of a list.
 module _ (m : Structure) (size : ℕ) (c : Call) where

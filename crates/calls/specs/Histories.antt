@@ -16,6 +16,10 @@ abbrev pub given : {A : Type 0} → (A → Answer) → Result A Refusal → Answ
 given f (Ok a) = f a
 given f (Err e) = Refused e
 
+-- a call that was taken is answered with what it gives
+abbrev pub answered : Result Answer Refusal → Answer
+answered = given (λ a. a)
+
 abbrev pub told : ℕ × Bool → Answer
 told p = Told p.0 p.1
 

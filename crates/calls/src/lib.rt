@@ -1,7 +1,6 @@
 // Any list of calls on a board.
 #![tactic(auto)]
 
-mod answered;
 mod list;
 mod types;
 

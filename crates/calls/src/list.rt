@@ -1,27 +1,39 @@
 // One call after another.
 ghost use Rattle.std.specs.Prelude.{◌≡◌, ◌≤◌, [], length, vec_items, vec_len, vec_capacity};
+ghost use Rattle.calls.specs.Histories.{answered};
 ghost use Rattle.calls.specs.Performing.{DoesCall, Performs, PerformsOrLeaves};
 
-use crate::answered::{choice, copied, marked, number, says, told};
 use crate::types::{Answer, Call};
 use board::Board;
 use game::Game;
+use refusal::Refusal;
 use std::alloc::{AllocError, Global};
+
+// What a call gives, or why the board refuses it. A copy writes into the buffer.
+#[tactic(auto, using(crate::proofs::Performing::writes, crate::proofs::Performing::erases, crate::proofs::Performing::rounds, crate::proofs::Performing::asks, crate::proofs::Performing::tells, crate::proofs::Performing::plays, crate::proofs::Performing::copies))]
+fn taken<G: Game>(board: &mut Board<G>, call: Call, buffer: &mut [u8]) -> Result<Answer, Refusal>
+    ensures game { board.new.game ≡ board.old.game }
+    ensures does { DoesCall (G.Game.meaning board.old.game) call board.old.table board.new.table buffer.old buffer.new (answered result) }
+{
+    match call {
+        Call::Write(kind, group, r, s) => board.write(kind, group, r, s).map(Answer::Number),
+        Call::Round(rule) => board.round(rule).map(Answer::Marked),
+        Call::Erase => board.erase().map(Answer::Number),
+        Call::Ask(rule, state) => board.ask(rule, state).map(Answer::Says),
+        Call::Tell(rule) => board
+            .tell(rule)
+            .map(|(rounds, settled)| Answer::Told(rounds, settled)),
+        Call::Play(rule, state) => board.play(rule, state).map(Answer::Choice),
+        Call::Copy(rule, place) => board.copy(rule, buffer, place).map(Answer::Copied),
+    }
+}
 
 // One call, answered as the board answers it. A copy writes into the buffer.
 pub fn call<G: Game>(board: &mut Board<G>, call: Call, buffer: &mut [u8]) -> Answer
     ensures game { board.new.game ≡ board.old.game }
     ensures does { DoesCall (G.Game.meaning board.old.game) call board.old.table board.new.table buffer.old buffer.new result }
 {
-    match call {
-        Call::Write(kind, group, r, s) => number(board.write(kind, group, r, s)),
-        Call::Round(rule) => marked(board.round(rule)),
-        Call::Erase => number(board.erase()),
-        Call::Ask(rule, state) => says(board.ask(rule, state)),
-        Call::Tell(rule) => told(board.tell(rule)),
-        Call::Play(rule, state) => choice(board.play(rule, state)),
-        Call::Copy(rule, place) => copied(board.copy(rule, buffer, place)),
-    }
+    taken(board, call, buffer).unwrap_or_else(Answer::Refused)
 }
 
 // The calls in their order, each on what the earlier ones left, with room for what each answers.
@@ -31,7 +43,9 @@ fn in_order<G: Game>(
     buffer: &mut [u8],
     answers: &mut Vec<Answer>,
 )
-    requires { (answers.old.items ≡ []) × ((vec_len answers.old ≡ 0) × (length calls.now ≤ vec_capacity answers.old)) }
+    requires none { answers.old.items ≡ [] }
+    requires no_length { vec_len answers.old ≡ 0 }
+    requires room { length calls.now ≤ vec_capacity answers.old }
     ensures game { board.new.game ≡ board.old.game }
     ensures performs { Performs (G.Game.meaning board.old.game) calls.now board.old.table board.new.table buffer.old buffer.new answers.new.items }
 {

@@ -7,7 +7,7 @@ use Rattle.calls.proofs.list.in_order.Goals as goal
 pub loop-each-init : goal.loop-each-init
 loop-each-init g c =
     let x = c.args.board.now.game in
-    (refl, c.requires.1.0, c.requires.1.1, performs_none (g.G.Game.meaning x) (g.G.Game.limits x) c.args.board.now.table c.args.buffer.now (vec_items c.args.answers.now) c.requires.0)
+    (refl, c.requires.no_length, c.requires.room, performs_none (g.G.Game.meaning x) (g.G.Game.limits x) c.args.board.now.table c.args.buffer.now (vec_items c.args.answers.now) c.requires.none)
 
 pub loop-each-preserved : goal.loop-each-preserved
 loop-each-preserved g c =
