@@ -1,5 +1,6 @@
 -- A table of judged rules, one line to a rule: the calls that judge them on a new board, and what the board has to answer.
 use Rattle.std.specs.Prelude.{ℕ, zero, suc, ◌+◌, true, false, cond, List, [], ◌∷◌, ◌++◌, map, ◌==◌}
+use Rattle.std.specs.List.{range_with_len}
 use Rattle.book.specs.declared.rules.RuleField.{RuleField}
 use Rattle.atl.specs.declared.Shown.{Shown}
 use Rattle.atl.specs.declared.Verdict.TheVariants as verdict
@@ -64,8 +65,7 @@ rounds_of n zero = []
 rounds_of n (suc k) = rounds_of n k ++ (Tell n ∷ Round n ∷ [])
 
 abbrev pub asks_of : (n k : ℕ) → List Call
-asks_of n zero = []
-asks_of n (suc k) = asks_of n k ++ (Ask n k ∷ [])
+asks_of n k = map (λ q. Ask n q) (range_with_len 0 k)
 
 abbrev pub judging : (n states : ℕ) → (w : Call) → (rounds : ℕ) → List Call
 judging n states w rounds = w ∷ (rounds_of n rounds ++ (Tell n ∷ asks_of n states))
@@ -103,5 +103,4 @@ answers_of lines = answers_from 0 lines
 
 -- play rule n at the first k states
 abbrev pub plays_of : (n k : ℕ) → List Call
-plays_of n zero = []
-plays_of n (suc k) = plays_of n k ++ (Play n k ∷ [])
+plays_of n k = map (λ q. Play n q) (range_with_len 0 k)

@@ -1,17 +1,17 @@
 // The examples, judged by a board.
-ghost use Rattle.std.specs.Prelude.{◌≡◌, ◌<◌, [], map, IfOk, slice_set};
+ghost use Rattle.std.specs.Prelude.{◌≡◌, ◌<◌, ◌≤◌, [], length, map, IfOk, slice_set};
 ghost use Rattle.game.specs.Structure.{Choice};
 ghost use Rattle.drill.specs.Meaning.{drill as drill_of};
 ghost use Rattle.binding.specs.Entries.{entry_at};
 ghost use Rattle.book.specs.Described.{described};
 ghost use Rattle.book.specs.Readers.{game_in};
 ghost use Rattle.calls.specs.Histories.{answers};
-ghost use Rattle.judged.specs.Lines.{row_of};
-ghost use Rattle.judged.specs.Drilled.{drill_lines, drill_calls as calls_of_drill, drill_answers, FollowsBook, bound_lines, bound_calls as calls_of_bound_drill, bound_answers};
-ghost use Rattle.judged.specs.Meeting.{meeting_bytes, meeting as meeting_content, meeting_lines, meeting_calls as calls_of_meeting, meeting_answers};
+ghost use Rattle.judged.specs.Lines.{row_of, judging_from};
+ghost use Rattle.judged.specs.Drilled.{drill_lines, drill_calls as calls_of_drill, drill_answers, FollowsBook, bound_lines, bound_answers};
+ghost use Rattle.judged.specs.Meeting.{meeting_bytes, meeting as meeting_content, meeting_lines, meeting_answers};
 ghost use Rattle.judged.specs.Judged.{expected, JudgedExamples};
 
-use crate::rows::{plays, table};
+use crate::rows::table;
 use binding::Binding;
 use board::Board;
 use book::{FiledBook, UnreadBook};
@@ -99,7 +99,10 @@ fn drill() -> Drill
 
 // Sets an entry of the drill's binding, which is a choice there.
 fn bind(binding: &mut Binding<Drill>, state: u8, choice: u32)
-    requires { (state < 4) × ((Choice (drill_of 1) 3 state choice) × ((binding.old.game.limit ≡ 1) × (binding.old.group ≡ 3))) }
+    requires state { state < 4 }
+    requires choice { Choice (drill_of 1) 3 state choice }
+    requires limit { binding.old.game.limit ≡ 1 }
+    requires group { binding.old.group ≡ 3 }
     ensures limit { binding.new.game.limit ≡ 1 }
     ensures group { binding.new.group ≡ 3 }
     ensures entries { binding.new.entries.choices ≡ slice_set binding.old.entries.choices state choice }
@@ -139,20 +142,8 @@ fn drill_calls(heap: Global) -> Result<Vec<Call>, AllocError>
     ensures { IfOk result (λ v. v.items ≡ calls_of_drill) }
 {
     let mut calls = table(heap, 4, drill_rows())?;
-    plays(&mut calls, 6, 4)?;
+    calls.extend((0..4).map(|state| Call::Play(6, state)))?;
     Ok(calls)
-}
-
-fn bound_calls(heap: Global) -> Result<Vec<Call>, AllocError>
-    ensures { IfOk result (λ v. v.items ≡ calls_of_bound_drill) }
-{
-    table(heap, 4, bound_rows())
-}
-
-fn meeting_calls(heap: Global) -> Result<Vec<Call>, AllocError>
-    ensures { IfOk result (λ v. v.items ≡ calls_of_meeting) }
-{
-    table(heap, 3, meeting_rows())
 }
 
 // What the calls answer on a new board of the game, each on what the earlier ones left.
@@ -170,6 +161,20 @@ fn answered<G: Game + Drop>(
     answers
 }
 
+// What a new board of the game answers to the calls that judge a table of rules.
+fn judge<G: Game + Drop>(
+    heap: Global,
+    game: G,
+    states: u8,
+    rows: &[(Call, u8)],
+) -> Result<Vec<Answer>, AllocError>
+    requires { length rows.now ≤ 32 }
+    ensures { IfOk result (λ v. v.items ≡ answers (G.Game.meaning game) [] 0 (judging_from 0 states rows.now)) }
+{
+    let calls = table(heap, states, rows)?;
+    answered(heap, game, calls.as_slice())
+}
+
 fn judge_drill(heap: Global) -> Result<Vec<Answer>, AllocError>
     ensures { IfOk result (λ v. v.items ≡ drill_answers) }
 {
@@ -180,15 +185,13 @@ fn judge_drill(heap: Global) -> Result<Vec<Answer>, AllocError>
 fn judge_bound_drill(heap: Global) -> Result<Vec<Answer>, AllocError>
     ensures { IfOk result (λ v. v.items ≡ bound_answers) }
 {
-    let calls = bound_calls(heap)?;
-    answered(heap, bound_drill(), calls.as_slice())
+    judge(heap, bound_drill(), 4, bound_rows())
 }
 
 fn judge_meeting(heap: Global) -> Result<Vec<Answer>, AllocError>
     ensures { IfOk result (λ v. v.items ≡ meeting_answers) }
 {
-    let calls = meeting_calls(heap)?;
-    answered(heap, meeting(), calls.as_slice())
+    judge(heap, meeting(), 3, meeting_rows())
 }
 
 // What a new board of the example's game answers to the calls of the example.

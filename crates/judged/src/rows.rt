@@ -1,6 +1,6 @@
 // The calls that judge a table of rules.
 ghost use Rattle.std.specs.Prelude.{◌≡◌, ◌+◌, ◌≤◌, ◌++◌, length, IfOk, OnOk};
-ghost use Rattle.judged.specs.Lines.{rounds_of, asks_of, plays_of, judging, judging_from};
+ghost use Rattle.judged.specs.Lines.{rounds_of, judging, judging_from};
 
 use calls::Call;
 use std::alloc::{AllocError, Global};
@@ -16,27 +16,7 @@ fn rounds(calls: &mut Vec<Call>, rule: u8, rounds: u8) -> Result<(), AllocError>
     Ok(())
 }
 
-// An ask for each state.
-fn asks(calls: &mut Vec<Call>, rule: u8, states: u8) -> Result<(), AllocError>
-    ensures { OnOk result (calls.new.items ≡ calls.old.items ++ asks_of rule states) }
-{
-    for state in 0..states {
-        calls.push(Call::Ask(rule, state))?;
-    }
-    Ok(())
-}
-
-// A play at each state.
-pub(crate) fn plays(calls: &mut Vec<Call>, rule: u8, states: u8) -> Result<(), AllocError>
-    ensures { OnOk result (calls.new.items ≡ calls.old.items ++ plays_of rule states) }
-{
-    for state in 0..states {
-        calls.push(Call::Play(rule, state))?;
-    }
-    Ok(())
-}
-
-// One rule: its write, its rounds, and what it then says.
+// One rule: its write, its rounds, and a tell and an ask for each state after them.
 fn one(
     calls: &mut Vec<Call>,
     rule: u8,
@@ -49,8 +29,7 @@ fn one(
     calls.push(write)?;
     rounds(calls, rule, times)?;
     calls.push(Call::Tell(rule))?;
-    asks(calls, rule, states)?;
-    Ok(())
+    calls.extend((0..states).map(|state| Call::Ask(rule, state)))
 }
 
 // The rules of a table, each as the call that writes it and the rounds that settle it.
