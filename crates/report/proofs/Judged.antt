@@ -24,6 +24,7 @@ use Rattle.calls.specs.Histories.{given, told, answer, History, stack, Answered,
 use Rattle.calls.specs.Performing.{Performed, Performs}
 use Rattle.calls.proofs.Possible.{after_next}
 use Rattle.listing.specs.declared.Row.{Row}
+use Rattle.report.specs.declared.types.Stopped.TheVariants.{RefusedAt}
 use Rattle.report.specs.Judging.{first_from, with_rounds, settled_at, judged_if, judged_on}
 use Rattle.report.specs.Printed.{marks_shown}
 use Rattle.report.specs.Steps.{asks, script, refusal_in, shown_in, rounds_in, first_refused, all_shown, last_told, Reached, RuleJudged, JudgesRule}
@@ -157,10 +158,10 @@ module _ (m : Structure) (L : Limits m) (x : RuleField) (n : ℕ) (t t' : Table)
       let l = R.led in
       (l.calls, l.is, l.answered, subst (λ (cs : List Call). Performed m l.calls cs b t' b' all) is_script (p l.calls l.answered (subst (λ (s : Stack). Shows m s t) (sym l.is) R.shows)))
 
-  pub rule_refused : (e : Refusal) → first_refused all ≡ Some e → JudgesRule m x n t t' (Err e)
+  pub rule_refused : (e : Refusal) → first_refused all ≡ Some e → JudgesRule m x n t t' (Err (RefusedAt n e))
   rule_refused e i st R height =
       let w = performed_on st R in
-      subst (λ (s : Stack). judged_on m x s ≡ Err e) w.1 (refuses m (length b) x n w.0 e (ap first_refused (sym w.3.answers) ∙ i))
+      (sym height, subst (λ (s : Stack). judged_on m x s ≡ Err e) w.1 (refuses m (length b) x n w.0 e (ap first_refused (sym w.3.answers) ∙ i)))
 
   pub rule_taken : (row : Row) → first_refused all ≡ None → row.rounds ≡ last_told 0 all → vec_items row.marks ≡ all_shown all → JudgesRule m x n t t' (Ok row)
   rule_taken row i er em st R height =

@@ -1,5 +1,5 @@
 -- The rules judged one after another.
-use Rattle.std.proofs.Common.{◌≡◌, ℕ, zero, suc, ◌+◌, ◌<◌, ◌≤◌, true, false, ltb, List, [], ◌∷◌, ◌++◌, length, Some, None, Ok, Err, vec_items, Option, Result, Vec, sym, refl, ap, ◌∙◌, subst, ap₂, ⊎_elim, arith, length-append}
+use Rattle.std.proofs.Common.{IsErrAnd, ◌≡◌, ℕ, zero, suc, ◌+◌, ◌<◌, ◌≤◌, true, false, ltb, List, [], ◌∷◌, ◌++◌, length, Some, None, Ok, Err, vec_items, Option, Result, Vec, sym, refl, ap, ◌∙◌, subst, ap₂, ⊎_elim, arith, length-append}
 use Rattle.std.proofs.lemmas.Bool.{ltb-true, ltb-false, cases_Bool, cond-true, cond-false, cases_lt}
 use Rattle.std.specs.declared.alloc.Global.{Global}
 use Rattle.game.specs.Structure.{Structure}
@@ -14,15 +14,31 @@ use Rattle.listing.specs.declared.Row.{Row}
 use Rattle.listing.specs.Text.{rule_text, game_text, rows_text, listing_text}
 use Rattle.listing.proofs.Lines.{rows_push}
 use Rattle.report.specs.Judging.{judged_on, at_rule, then_judged, judged, rule_number, judgement}
-use Rattle.report.specs.declared.types.Judged.{Judged}
-use Rattle.report.specs.declared.types.Judged.TheVariants.{Rows}
-use Rattle.report.specs.Printed.{listing, listed}
-use Rattle.report.specs.Steps.{Led, JudgesRule, RowsSoFar, RowsRight, AllJudged}
+use Rattle.report.specs.declared.types.Stopped.{Stopped}
+use Rattle.report.specs.declared.types.Stopped.TheVariants.{RefusedAt, NoMemory}
+use Rattle.report.specs.declared.types.Report.{Report}
+use Rattle.report.specs.Printed.{Prints, listing, listed, played}
+use Rattle.report.specs.Stopping.{IsNoMemory}
+use Rattle.report.specs.Steps.{Led, JudgesRule, RowsSoFar, RowsRight, AllJudged, DeclinesStopped}
 
 -- a rule judged over what the loop began with
-pub carried : {G : Type 0} (meaning : G → Structure) (x y : G) (f : RuleField) (n k : ℕ) (t t' : Table) (r s : Result Row Refusal) → x ≡ y → n ≡ k → r ≡ s → JudgesRule (meaning x) f n t t' r → JudgesRule (meaning y) f k t t' s
+pub carried : {G : Type 0} (meaning : G → Structure) (x y : G) (f : RuleField) (n k : ℕ) (t t' : Table) (r s : Result Row Stopped) → x ≡ y → n ≡ k → r ≡ s → JudgesRule (meaning x) f n t t' r → JudgesRule (meaning y) f k t t' s
 carried {G = G} meaning x y f n k t t' r s ex en er j =
-    subst (λ (z : G). JudgesRule (meaning z) f k t t' s) ex (subst (λ i. JudgesRule (meaning x) f i t t' s) en (subst (λ (z : Result Row Refusal). JudgesRule (meaning x) f n t t' z) er j))
+    subst (λ (z : G). JudgesRule (meaning z) f k t t' s) ex (subst (λ i. JudgesRule (meaning x) f i t t' s) en (subst (λ (z : Result Row Stopped). JudgesRule (meaning x) f n t t' z) er j))
+
+-- want of memory says nothing of the rules
+pub no_memory_rule : (m : Structure) (f : RuleField) (n : ℕ) (t t' : Table) (why : Stopped) → IsNoMemory why → JudgesRule m f n t t' (Err why)
+no_memory_rule m f n t t' (NoMemory e) i = λ st R height. tt
+no_memory_rule m f n t t' (RefusedAt k e) i = absurd i
+
+pub no_memory_all : (m : Structure) (bs : List ℕ) (t : Table) (why : Stopped) → IsNoMemory why → AllJudged m bs t (Err why)
+no_memory_all m bs t (NoMemory e) i = tt
+no_memory_all m bs t (RefusedAt k e) i = absurd i
+
+-- an error that `?` hands on
+pub same_stop : (m : Structure) (bs : List ℕ) (t : Table) (r : Result (Vec Row Global) Stopped) (why : Stopped) → IsErrAnd r (λ e. e ≡ why) → AllJudged m bs t (Err why) → AllJudged m bs t r
+same_stop m bs t (Ok rows) why i j = absurd i
+same_stop m bs t (Err e) why i j = subst (λ (x : Stopped). AllJudged m bs t (Err x)) (sym i) j
 
 -- The rule of a number, where there is one.
 pub told_some : (bs : List ℕ) (k : ℕ) (f : RuleField) → rule_told bs k ≡ Some f → (k < rule_count bs) × (f ≡ rule_number bs k)
@@ -67,8 +83,12 @@ module _ (m : Structure) (bs : List ℕ) where
     next : judged m (rule_number bs) (suc n) ≡ at_rule n (judged_on m f so_far.stands)
     next = ap (then_judged m n (rule_number bs n)) so_far.judged_is ∙ ap (λ (x : RuleField). at_rule n (judged_on m x so_far.stands)) (sym (told_some bs n f told).1)
 
-    pub so_far_refused : (e : Refusal) → JudgesRule m f n t t' (Err e) → judgement m bs ≡ Err (n, e)
-    so_far_refused e j = judged_stays m (rule_number bs) (suc n) (rule_count bs) (n, e) (omega (arith, (told_some bs n f told).0)) (next ∙ ap (at_rule n) (j so_far.stands so_far.reached so_far.height))
+    pub so_far_stopped : (why : Stopped) → JudgesRule m f n t t' (Err why) → AllJudged m bs t' (Err why)
+    so_far_stopped (NoMemory e) j = tt
+    so_far_stopped (RefusedAt k e) j =
+        let w = j so_far.stands so_far.reached so_far.height in
+        judged_stays m (rule_number bs) (suc n) (rule_count bs) (n, e) (omega (arith, (told_some bs n f told).0)) (next ∙ ap (at_rule n) w.1)
+        ∙ ap (λ (i : ℕ). Err (i, e)) (sym so_far.height ∙ sym w.0)
 
     pub so_far_more : (row : Row) (rows' : List Row) (n' : ℕ) → JudgesRule m f n t t' (Ok row) → rows' ≡ rows ++ row ∷ [] → n' ≡ n + 1 → RowsSoFar m bs rows' n' t'
     so_far_more row rows' n' j er en =
@@ -98,10 +118,20 @@ module _ (m : Structure) (bs : List ℕ) where
 game_same : (a b c x y z : ℕ) → a ≡ x → b ≡ y → c ≡ z → game_text a b c ≡ game_text x y z
 game_same a b c x y z e f g = ap (λ i. game_text i b c) e ∙ ap (λ i. game_text x i c) f ∙ ap (λ i. game_text x y i) g
 
-pub prints_rows : {G : Type 0} (meaning : G → Structure) (x y : G) (bs : List ℕ) (t : Table) (j : Judged) (rows : Vec Row Global) (shown : List Row) (text : List ℕ) (players states start : ℕ)
-    → x ≡ y → AllJudged (meaning x) bs t j → j ≡ Rows rows → shown ≡ vec_items rows → text ≡ listing_text players states start shown
+pub prints_rows : {G : Type 0} (meaning : G → Structure) (x y : G) (bs : List ℕ) (t : Table) (rows : Vec Row Global) (shown : List Row) (text : List ℕ) (players states start : ℕ)
+    → x ≡ y → AllJudged (meaning x) bs t (Ok rows) → shown ≡ vec_items rows → text ≡ listing_text players states start shown
     → players ≡ (meaning y).players → states ≡ (meaning y).states → start ≡ (meaning y).start
     → listing text ≡ listed (meaning y) (judgement (meaning y) bs)
-prints_rows {G = G} meaning x y bs t j rows shown text players states start e a i r w p n s =
-    let d = subst (λ (z : G). AllJudged (meaning z) bs t (Rows rows)) e (subst (AllJudged (meaning x) bs t) i a) in
+prints_rows {G = G} meaning x y bs t rows shown text players states start e a r w p n s =
+    let d = subst (λ (z : G). AllJudged (meaning z) bs t (Ok rows)) e a in
     ap listing (w ∙ ap₂ (λ (u v : List ℕ). u ++ v) (game_same players states start (meaning y).players (meaning y).states (meaning y).start p n s) (ap (rows_text 0) r ∙ d.text)) ∙ ap (listed (meaning y)) (sym d.judged_is)
+
+-- What is printed where judging stopped.
+module _ (m : Structure) (bs : List ℕ) (t : Table) where
+  pub stopped_lists : (why : Stopped) → AllJudged m bs t (Err why) → (report : Report) → DeclinesStopped why report → Prints (listed m (judgement m bs)) report
+  stopped_lists (RefusedAt n e) j report d = d ∙ ap (listed m) (sym j)
+  stopped_lists (NoMemory e) j report d = absurd d
+
+  pub stopped_plays : (rule : ℕ) (why : Stopped) → AllJudged m bs t (Err why) → (report : Report) → DeclinesStopped why report → Prints (played m rule (judgement m bs)) report
+  stopped_plays rule (RefusedAt n e) j report d = d ∙ ap (played m rule) (sym j)
+  stopped_plays rule (NoMemory e) j report d = absurd d

@@ -1,3 +1,4 @@
+pub mod Stopping
 pub mod Judging
 pub mod Printed
 pub mod Right

@@ -1,5 +1,6 @@
 -- What the steps of judging do: the calls that judge a rule, what is read of their answers, and what the board shows after them.
-use Rattle.std.specs.Prelude.{◌≡◌, ℕ, zero, suc, ◌+◌, ◌<◌, ◌≤◌, true, List, [], ◌∷◌, ◌++◌, length, replicate, Some, None, Ok, Err, vec_items, Option, Result}
+use Rattle.std.specs.Prelude.{⊤, ◌≡◌, ℕ, zero, suc, ◌+◌, ◌<◌, ◌≤◌, true, List, [], ◌∷◌, ◌++◌, length, replicate, Some, None, Ok, Err, vec_items, Option, Result, Vec}
+use Rattle.std.specs.declared.alloc.Global.{Global}
 use Rattle.std.specs.Option.{option_to_list}
 use Rattle.game.specs.Structure.{Structure}
 use Rattle.refusal.specs.declared.Refusal.{Refusal}
@@ -18,10 +19,10 @@ use Rattle.calls.specs.Histories.{History, stack, Answered}
 use Rattle.listing.specs.declared.Row.{Row}
 use Rattle.listing.specs.Text.{rows_text}
 use Rattle.report.specs.declared.types.Report.{Report}
-use Rattle.report.specs.declared.types.Judged.{Judged}
-use Rattle.report.specs.declared.types.Judged.TheVariants.{Rows, RefusedAt}
+use Rattle.report.specs.declared.types.Stopped.{Stopped}
+use Rattle.report.specs.declared.types.Stopped.TheVariants.{RefusedAt, NoMemory}
 use Rattle.report.specs.Judging.{judged_on, judged, rule_number, judgement}
-use Rattle.report.specs.Printed.{Prints, marks_shown, lines, played}
+use Rattle.report.specs.Printed.{Prints, declines, marks_shown, lines, played}
 
 -- The calls that judge rule n: it is written, given as many rounds as any rule may need, and then asked at each state.
 abbrev pub asks : (n states : ℕ) → List Call
@@ -91,13 +92,14 @@ pub record Reached (m : Structure) (st : Stack) (t : Table) : Type 0 where
   pub led : Led m st
   pub shows : Shows m st t
 
--- the rule f was judged on st: it stands as x, with its row; or it was refused
-abbrev pub RuleJudged : Structure → RuleField → Stack → Table → Result Row Refusal → Type 0
+-- the rule f was judged on st: it stands as x, with its row; or it was refused under its number
+abbrev pub RuleJudged : Structure → RuleField → Stack → Table → Result Row Stopped → Type 0
 RuleJudged m f st t' (Ok row) = (x : Standing) × (judged_on m f st ≡ Ok (x ∷ st)) × Reached m (x ∷ st) t' × RowRight m x st row
-RuleJudged m f st t' (Err e) = judged_on m f st ≡ Err e
+RuleJudged m f st t' (Err (RefusedAt n e)) = (n ≡ length st) × (judged_on m f st ≡ Err e)
+RuleJudged m f st t' (Err (NoMemory e)) = ⊤
 
 -- whatever stands, if it is settled
-abbrev pub JudgesRule : Structure → RuleField → (n : ℕ) → (t t' : Table) → Result Row Refusal → Type 0
+abbrev pub JudgesRule : Structure → RuleField → (n : ℕ) → (t t' : Table) → Result Row Stopped → Type 0
 JudgesRule m f n t t' r = (st : Stack) → Reached m st t → length st ≡ n → RuleJudged m f st t' r
 
 -- The first n rules that the bytes tell are judged, and the rows show what each says.
@@ -117,9 +119,15 @@ pub record RowsRight (m : Structure) (bs : List ℕ) (t : Table) (rows : List Ro
   pub reached : Reached m stands t
   pub text : rows_text 0 rows ≡ lines m stands
 
-abbrev pub AllJudged : Structure → List ℕ → Table → Judged → Type 0
-AllJudged m bs t (Rows rows) = RowsRight m bs t (vec_items rows)
-AllJudged m bs t (RefusedAt n e) = judgement m bs ≡ Err (n, e)
+abbrev pub AllJudged : Structure → List ℕ → Table → Result (Vec Row Global) Stopped → Type 0
+AllJudged m bs t (Ok rows) = RowsRight m bs t (vec_items rows)
+AllJudged m bs t (Err (RefusedAt n e)) = judgement m bs ≡ Err (n, e)
+AllJudged m bs t (Err (NoMemory e)) = ⊤
+
+-- the line of the rule that was refused; want of memory has none
+abbrev pub DeclinesStopped : Stopped → Report → Type 0
+DeclinesStopped (RefusedAt n e) report = Prints (declines (n, e)) report
+DeclinesStopped (NoMemory e) report = ⊥
 
 -- A copy of rule n's playbook, whatever stands: why it was refused, if it was, and what is in the buffer then.
 abbrev pub refusal_if : Result ℕ Refusal → Option Refusal

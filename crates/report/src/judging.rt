@@ -1,5 +1,5 @@
 // Judging the rules one after another on a board.
-ghost use Rattle.std.specs.Prelude.{◌≡◌, IfOk};
+ghost use Rattle.std.specs.Prelude.{◌≡◌, ◌≤◌};
 ghost use Rattle.table.specs.Answers.{nothing};
 ghost use Rattle.table.specs.Shows.{Shows};
 ghost use Rattle.book.specs.Readers.{told};
@@ -7,55 +7,77 @@ ghost use Rattle.report.specs.Steps.{JudgesRule, AllJudged};
 
 use crate::reading::{marks, refused, rounds};
 use crate::script::script;
-use crate::types::Judged;
+use crate::types::Stopped;
 use board::Board;
 use book::{RuleField, Rules};
 use calls::perform;
 use game::Game;
 use listing::Row;
-use refusal::Refusal;
-use std::alloc::{AllocError, Global};
+use std::alloc::Global;
 
-// Judges one rule, under its number: what the listing shows of it, or its refusal.
-fn judge_rule<G: Game>(
-    heap: Global,
-    board: &mut Board<G>,
-    states: u16,
-    rule: u8,
-    field: RuleField,
-) -> Result<Result<Row, Refusal>, AllocError>
-    requires { states ≡ (G.Game.meaning board.old.game).states }
-    ensures game { board.new.game ≡ board.old.game }
-    ensures judges { IfOk result (JudgesRule (G.Game.meaning board.old.game) field rule board.old.table board.new.table) }
-{
-    let calls = script(heap, states, rule, field)?;
-    let answers = perform(heap, board, calls.as_slice(), &mut [])?;
-    if let Some(refusal) = refused(answers.as_slice()) {
-        return Ok(Err(refusal));
-    }
-    let marks = marks(heap, answers.as_slice())?;
-    let rounds = rounds(answers.as_slice());
-    Ok(Ok(Row { rounds, marks }))
+// A board on which rules are judged, and how many states its game has.
+pub(crate) struct Judging<G: Game> {
+    pub(crate) heap: Global,
+    pub(crate) board: Board<G>,
+    pub(crate) states: u16,
+    ghost ok: { states ≡ (G.Game.meaning board.game).states },
 }
 
-// Judges all rules in order on a new board, up to the first that is refused.
-pub(crate) fn judge<G: Game>(
-    heap: Global,
-    board: &mut Board<G>,
-    states: u16,
-    rules: Rules<'_>,
-) -> Result<Judged, AllocError>
-    requires states { states ≡ (G.Game.meaning board.old.game).states }
-    requires empty { Shows (G.Game.meaning board.old.game) nothing board.old.table }
-    ensures game { board.new.game ≡ board.old.game }
-    ensures judged { IfOk result (AllJudged (G.Game.meaning board.old.game) (told rules.entry) board.new.table) }
-{
-    let mut rows = Vec::new(heap);
-    while let Some(field) = rules.get(rows.len()) {
-        match judge_rule(heap, board, states, rows.len() as u8, field)? {
-            Ok(row) => rows.push(row)?,
-            Err(refusal) => return Ok(Judged::RefusedAt(rows.len(), refusal)),
+impl<G: Game> Judging<G> {
+    // A new board of the game.
+    pub(crate) fn new(heap: Global, game: G) -> Judging<G>
+        ensures game { result.board.game ≡ game }
+        ensures empty { Shows (G.Game.meaning game) nothing result.board.table }
+    {
+        let (states, _) = game.states();
+        let board = Board::new(game);
+        Judging {
+            heap,
+            board,
+            states,
         }
     }
-    Ok(Judged::Rows(rows))
+
+    // Ends the board and gives its game back.
+    pub(crate) fn close(self) -> G
+        ensures { result ≡ self.board.game }
+    {
+        let Judging {
+            heap: _,
+            board,
+            states: _,
+        } = self;
+        board.close()
+    }
+
+    // Judges one rule, under its number: what the listing shows of it.
+    #[tactic(auto, using(crate::proofs::Rows::no_memory_rule))]
+    fn rule(&mut self, rule: u8, field: RuleField) -> Result<Row, Stopped>
+        ensures game { self.new.board.game ≡ self.old.board.game }
+        ensures judges { JudgesRule (G.Game.meaning self.old.board.game) field rule self.old.board.table self.new.board.table result }
+    {
+        let calls = script(self.heap, self.states, rule, field)?;
+        let answers = perform(self.heap, &mut self.board, calls.as_slice(), &mut [])?;
+        if let Some(refusal) = refused(answers.as_slice()) {
+            return Err(Stopped::RefusedAt(rule as usize, refusal));
+        }
+        let marks = marks(self.heap, answers.as_slice())?;
+        let rounds = rounds(answers.as_slice());
+        Ok(Row { rounds, marks })
+    }
+
+    // Judges all rules in order on a board where none stands.
+    #[tactic(auto, using(crate::proofs::Rows::no_memory_all))]
+    pub(crate) fn rules(&mut self, rules: Rules<'_>) -> Result<Vec<Row>, Stopped>
+        requires { Shows (G.Game.meaning self.old.board.game) nothing self.old.board.table }
+        ensures game { self.new.board.game ≡ self.old.board.game }
+        ensures judged { AllJudged (G.Game.meaning self.old.board.game) (told rules.entry) self.new.board.table result }
+    {
+        let mut rows = Vec::new(self.heap);
+        while let Some(field) = rules.get(rows.len()) {
+            let row = self.rule(rows.len() as u8, field)?;
+            rows.push(row)?;
+        }
+        Ok(rows)
+    }
 }

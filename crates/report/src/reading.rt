@@ -38,10 +38,7 @@ fn rounds_of(before: u16, answer: Answer) -> u16
 pub(crate) fn refused(answers: &[Answer]) -> Option<Refusal>
     ensures { result ≡ first_refused answers.now }
 {
-    if answers.len() == 0 {
-        return None;
-    }
-    refusal_of(answers[0])
+    answers.first().and_then(|answer| refusal_of(*answer))
 }
 
 // The marks that the answers show, in order.

@@ -6,16 +6,15 @@ ghost use Rattle.table.specs.Shows.{Shows};
 ghost use Rattle.report.specs.Judging.{judgement};
 ghost use Rattle.report.specs.Printed.{Prints, declines, listed, played};
 ghost use Rattle.report.specs.Right.{RightOf};
-ghost use Rattle.report.specs.Steps.{Copies, Books};
+ghost use Rattle.report.specs.Steps.{Copies, Books, DeclinesStopped};
 
-use crate::judging::judge;
+use crate::judging::Judging;
 use crate::reading::refused;
-use crate::types::{Judged, Report};
-use board::Board;
+use crate::types::{Report, Stopped};
 use book::Rules;
 use calls::{Call, perform};
 use game::Game;
-use listing::{listing, refused_line};
+use listing::{Heading, listing, refused_line};
 use refusal::Refusal;
 use std::alloc::{AllocError, Global};
 
@@ -26,6 +25,16 @@ fn declined(heap: Global, rule: usize, refusal: Refusal) -> Result<Report, Alloc
     Ok(Report::Declined(refused_line(heap, rule, refusal)?))
 }
 
+// The line that says why not all rules were judged.
+fn stopped(heap: Global, stopped: Stopped) -> Result<Report, AllocError>
+    ensures { IfOk result (DeclinesStopped «stopped») }
+{
+    match stopped {
+        Stopped::RefusedAt(rule, refusal) => declined(heap, rule, refusal),
+        Stopped::NoMemory(error) => Err(error),
+    }
+}
+
 // The listing of the game judged by the rules.
 pub fn list<G: Game + Drop>(heap: Global, game: G, rules: Rules<'_>) -> Result<Report, AllocError>
     ensures listed { IfOk result (Prints (listed (G.Game.meaning game) (judgement (G.Game.meaning game) (told rules.entry)))) }
@@ -33,15 +42,20 @@ pub fn list<G: Game + Drop>(heap: Global, game: G, rules: Rules<'_>) -> Result<R
 {
     let players = game.players();
     let (states, start) = game.states();
-    let mut board = Board::new(game);
-    let judged = judge(heap, &mut board, states, rules);
-    let _game = board.close();
-    match judged? {
-        Judged::Rows(rows) => {
-            let text = listing(heap, players, states, start, rows.as_slice())?;
+    let heading = Heading {
+        players,
+        states,
+        start,
+    };
+    let mut judging = Judging::new(heap, game);
+    let judged = judging.rules(rules);
+    let _game = judging.close();
+    match judged {
+        Ok(rows) => {
+            let text = listing(heap, heading, rows.as_slice())?;
             Ok(Report::Listing(text))
         }
-        Judged::RefusedAt(rule, refusal) => declined(heap, rule, refusal),
+        Err(why) => stopped(heap, why),
     }
 }
 
@@ -49,54 +63,39 @@ pub fn list<G: Game + Drop>(heap: Global, game: G, rules: Rules<'_>) -> Result<R
 fn byte_of(rule: usize) -> u8
     ensures { result ≡ (if nat_lt rule 256 then rule else 255) }
 {
-    if rule < 256 { rule as u8 } else { u8::MAX }
+    u8::try_from(rule).unwrap_or(u8::MAX)
 }
 
-// Copies the playbook of a rule into the buffer; answers why not, if it was refused.
-fn copy<G: Game>(
-    heap: Global,
-    board: &mut Board<G>,
-    rule: u8,
-    buffer: &mut [u8],
-) -> Result<Option<Refusal>, AllocError>
-    ensures { IfOk result (Copies (G.Game.meaning board.old.game) rule board.old.table buffer.old buffer.new) }
-{
-    let answers = perform(heap, board, &[Call::Copy(rule, 0)], buffer)?;
-    Ok(refused(answers.as_slice()))
-}
-
-// The playbook of a rule that stands on the board.
-fn book<G: Game>(
-    heap: Global,
-    board: &mut Board<G>,
-    states: u16,
-    rule: usize,
-) -> Result<Report, AllocError>
-    requires { states ≡ (G.Game.meaning board.old.game).states }
-    ensures { IfOk result (Books (G.Game.meaning board.old.game) rule board.old.table) }
-{
-    let mut buffer = vec![in heap; 0u8; states as usize * 4]?;
-    match copy(heap, board, byte_of(rule), buffer.as_mut_slice())? {
-        Some(refusal) => declined(heap, rule, refusal),
-        None => Ok(Report::Playbook(buffer)),
+impl<G: Game> Judging<G> {
+    // Copies the playbook of a rule into the buffer; answers why not, if it was refused.
+    fn copy(&mut self, rule: u8, buffer: &mut [u8]) -> Result<Option<Refusal>, AllocError>
+        ensures { IfOk result (Copies (G.Game.meaning self.old.board.game) rule self.old.board.table buffer.old buffer.new) }
+    {
+        let answers = perform(self.heap, &mut self.board, &[Call::Copy(rule, 0)], buffer)?;
+        Ok(refused(answers.as_slice()))
     }
-}
 
-// The playbook of a rule, once all rules are judged on a new board.
-fn judged_book<G: Game>(
-    heap: Global,
-    board: &mut Board<G>,
-    states: u16,
-    rules: Rules<'_>,
-    rule: usize,
-) -> Result<Report, AllocError>
-    requires states { states ≡ (G.Game.meaning board.old.game).states }
-    requires empty { Shows (G.Game.meaning board.old.game) nothing board.old.table }
-    ensures { IfOk result (Prints (played (G.Game.meaning board.old.game) rule (judgement (G.Game.meaning board.old.game) (told rules.entry)))) }
-{
-    match judge(heap, board, states, rules)? {
-        Judged::Rows(_) => book(heap, board, states, rule),
-        Judged::RefusedAt(first, refusal) => declined(heap, first, refusal),
+    // The playbook of a rule that stands on the board.
+    fn book(&mut self, rule: usize) -> Result<Report, AllocError>
+        ensures { IfOk result (Books (G.Game.meaning self.old.board.game) rule self.old.board.table) }
+    {
+        let heap = self.heap;
+        let mut buffer = vec![in heap; 0u8; self.states as usize * 4]?;
+        match self.copy(byte_of(rule), buffer.as_mut_slice())? {
+            Some(refusal) => declined(heap, rule, refusal),
+            None => Ok(Report::Playbook(buffer)),
+        }
+    }
+
+    // The playbook of a rule, once all rules are judged on a board where none stands.
+    fn judged_book(&mut self, rules: Rules<'_>, rule: usize) -> Result<Report, AllocError>
+        requires { Shows (G.Game.meaning self.old.board.game) nothing self.old.board.table }
+        ensures { IfOk result (Prints (played (G.Game.meaning self.old.board.game) rule (judgement (G.Game.meaning self.old.board.game) (told rules.entry)))) }
+    {
+        if let Err(why) = self.rules(rules) {
+            return stopped(self.heap, why);
+        }
+        self.book(rule)
     }
 }
 
@@ -110,9 +109,8 @@ pub fn playbook<G: Game + Drop>(
     ensures played { IfOk result (Prints (played (G.Game.meaning game) rule (judgement (G.Game.meaning game) (told rules.entry)))) }
     ensures right { RightOf (G.Game.meaning game) (told rules.entry) }
 {
-    let (states, _) = game.states();
-    let mut board = Board::new(game);
-    let report = judged_book(heap, &mut board, states, rules, rule);
-    let _game = board.close();
+    let mut judging = Judging::new(heap, game);
+    let report = judging.judged_book(rules, rule);
+    let _game = judging.close();
     report
 }

@@ -1,6 +1,8 @@
 // What judging a game comes to.
-use listing::Row;
+ghost use Rattle.report.specs.Stopping.{IsNoMemory};
+
 use refusal::Refusal;
+use std::alloc::{AllocError, AllocFailed};
 
 // What is printed: what was asked for, or one line that says why not.
 #[derive(Drop)]
@@ -10,9 +12,25 @@ pub enum Report {
     Declined(String),
 }
 
-// What judging the rules gave: a row for each, or the number of the first that was refused, with its refusal.
-#[derive(Drop)]
-pub(crate) enum Judged {
-    Rows(Vec<Row>),
+// Why not all rules were judged: the first that was refused, by its number, or want of memory.
+#[derive(Clone, Copy)]
+pub(crate) enum Stopped {
     RefusedAt(usize, Refusal),
+    NoMemory(AllocError),
+}
+
+impl From<AllocError> for Stopped {
+    ghost from_gives = { λ _ stopped. IsNoMemory stopped };
+
+    fn from(error: AllocError) -> Stopped {
+        Stopped::NoMemory(error)
+    }
+}
+
+impl<T: Drop> From<AllocFailed<T>> for Stopped {
+    ghost from_gives = { λ _ stopped. IsNoMemory stopped };
+
+    fn from(failed: AllocFailed<T>) -> Stopped {
+        Stopped::NoMemory(AllocError::from(failed))
+    }
 }

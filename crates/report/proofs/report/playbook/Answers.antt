@@ -7,6 +7,6 @@ use Rattle.report.proofs.report.playbook.Goals as goal
 
 pub returns : goal.returns
 returns g c = record {
-  played = subst (λ (x : g.row.G.Denot). IfOk c.judged_book-report.result (Prints (played (g.G.Game.meaning x) c.args.rule (judgement (g.G.Game.meaning x) (told c.args.rules))))) c.new-board.ensures.game c.judged_book-report.ensures;
+  played = subst (λ (x : g.row.G.Denot). IfOk c.judged_book-report.result (Prints (played (g.G.Game.meaning x) c.args.rule (judgement (g.G.Game.meaning x) (told c.args.rules))))) c.new-judging.ensures.game c.judged_book-report.ensures;
   right = right_of (g.G.Game.meaning c.args.game) (g.G.Game.limits c.args.game) (told c.args.rules);
 }
