@@ -1,7 +1,7 @@
 // A game laid over another, in which the members of a group have bound themselves to what a table says.
 #![tactic(auto)]
 
-ghost use Rattle.std.specs.Prelude.{◌≡◌, ℕ, ◌<◌, ◌≤◌, replicate, if◌then◌else◌, nat_eq, nat_lt, slice_set};
+ghost use Rattle.std.specs.Prelude.{◌≡◌, ℕ, replicate, if◌then◌else◌, nat_eq, slice_set};
 ghost use Rattle.game.specs.Structure.{Structure, Choice};
 ghost use Rattle.game.specs.Lists.{member, own, highest};
 ghost use Rattle.game.specs.Bound.{bound, left, legal, placed};

@@ -1,7 +1,7 @@
 // The resend drill: a game of two players, the gateway and the line.
 #![tactic(auto)]
 
-ghost use Rattle.std.specs.Prelude.{◌≡◌, ℕ, ◌+◌, ◌-◌, ◌*◌, ◌/◌, ◌%◌, ◌^◌, ◌<◌, ◌≤◌, cond, Ok, Err};
+ghost use Rattle.std.specs.Prelude.{◌≡◌, Ok, Err};
 ghost use Rattle.refusal.specs.declared.Refusal.TheVariants.{NoLimit};
 ghost use Rattle.drill.specs.Meaning.{Limit, drill, answered as answered_of, given_up as given_up_of, lead as lead_of, most as most_of};
 ghost use Rattle.drill.specs.Limited.{drill_limits};

@@ -1,5 +1,5 @@
 -- The test of a number against limits passes exactly for the numbers under them.
-use Rattle.std.proofs.Common.{◌≡◌, ℕ, zero, suc, ◌-◌, ◌/◌, ◌%◌, ◌<◌, min, true, false, ◌&&◌, eqb, leb, Decides, refl, ap, ◌∙◌, arith}
+use Rattle.std.proofs.Common.{◌≡◌, ℕ, zero, suc, ◌+◌, ◌-◌, ◌/◌, ◌%◌, ◌<◌, min, Bool, true, false, ◌&&◌, eqb, leb, Decides, refl, ap, ◌∙◌, arith}
 use Rattle.std.proofs.lemmas.Bool.{and_left, and_from, and_parts, le-leb, leb-true, eqb-true, eq-eqb}
 use Rattle.game.specs.Lists.{highest, under}
 use Rattle.game.proofs.Walk.{Digits, highest_mod, highest_div}
@@ -11,10 +11,11 @@ unfolding under
 under_not zero h v l k = absurd (omega arith)
 under_not (suc n) h v l k = and_left _ _ k
 
-pub under_more : (n h v : ℕ) → 0 < n → (leb (min 1 (h % 16)) (v % 16) && leb (v % 16) (h % 16)) ≡ true → under n h v ≡ under (n - 1) (h / 16) (v / 16)
+pub under_more : (t : Bool) (p i h v : ℕ) → i < p → (leb (min 1 (h % 16)) (v % 16) && leb (v % 16) (h % 16)) ≡ true → t ≡ under (p - i) h v → t ≡ under (p - (i + 1)) (h / 16) (v / 16)
 unfolding under
-under_more zero h v l i = absurd (omega arith)
-under_more (suc n) h v l i = let e : suc n - 1 ≡ n = omega arith in ap (λ b. b && under n (h / 16) (v / 16)) i ∙ rw e refl
+under_more t p i h v l k e =
+    let s : p - i ≡ suc (p - (i + 1)) = omega arith in
+    e ∙ ap (λ n. under n h v) s ∙ ap (λ b. b && under (p - (i + 1)) (h / 16) (v / 16)) k
 
 pub under_none : (n h v : ℕ) → n ≡ 0 → under n h v ≡ eqb v 0
 unfolding under

@@ -1,5 +1,5 @@
 // The two sides of a state: what a group chooses, and what the others reply.
-ghost use Rattle.std.specs.Prelude.{◌≡◌, ℕ, ◌+◌, ◌-◌, ◌*◌, ◌/◌, ◌%◌, ◌^◌, ◌<◌, ◌≤◌, min, Bool, true, false, ◌&&◌, if◌then◌else◌, Decides, nat_le, nat_lt};
+ghost use Rattle.std.specs.Prelude.{◌≡◌, ◌<◌, min, ◌&&◌, Decides, nat_le, nat_lt};
 ghost use Rattle.game.specs.Structure.{Vector, Choice};
 ghost use Rattle.game.specs.Lists.{member, own, other, highest, under};
 ghost use Rattle.game.specs.Divided.{Divided};
@@ -15,6 +15,7 @@ pub struct Sides {
 }
 
 // Whether the player is in the group.
+#[tactic(auto, using(crate::proofs::Tested::no_ninth))]
 pub fn is_member(group: u8, player: u8) -> bool
     ensures { result ≡ member player group }
 {
@@ -23,6 +24,7 @@ pub fn is_member(group: u8, player: u8) -> bool
 
 impl Sides {
     // The sides of a state for a group, each move count asked once.
+    #[tactic(auto, using(crate::proofs::Highest::rooms, crate::proofs::Highest::all_passed, crate::proofs::Highest::highest_none))]
     pub fn at<G: Game>(game: &G, state: u8, group: u8) -> Sides
         ensures players { result.players ≡ (G.Game.meaning game.now).players }
         ensures choice { result.choice ≡ highest (own (G.Game.meaning game.now) group state) 0 (G.Game.meaning game.now).players }
@@ -30,8 +32,8 @@ impl Sides {
         ensures divided { state < (G.Game.meaning game.now).states → Divided (G.Game.meaning game.now) group state }
     {
         let players = game.players();
-        let mut choice: u32 = 0;
-        let mut reply: u32 = 0;
+        let mut choice = 0;
+        let mut reply = 0;
         for player in (1..=players).rev() {
             let moves = game.moves(player, state) as u32;
             choice *= 16;
@@ -58,6 +60,8 @@ fn allows(limit: u32, digit: u32) -> bool
 }
 
 // Whether the number has so many digits in base 16, each 0 where `most` has 0 and from 1 to that digit elsewhere.
+// What is left after the last digit counts too, which an iterator over the digits would not give back.
+#[tactic(auto, using(crate::proofs::Under::under_not, crate::proofs::Under::under_more, crate::proofs::Under::under_none))]
 pub fn is_under(players: u8, most: u32, number: u32) -> bool
     ensures { result ≡ under players most number }
 {
@@ -81,6 +85,7 @@ fn admits<G: Game>(game: &G, state: u8, most: u32, number: u32) -> bool
 }
 
 // Whether the number is a vector of the state: nobody's replies are the vectors.
+#[tactic(auto, using(crate::proofs::Tested::tests_vector))]
 pub fn is_vector<G: Game>(game: &G, state: u8, number: u32) -> bool
     ensures { Decides result (Vector (G.Game.meaning game.now) state number) }
 {
@@ -89,6 +94,7 @@ pub fn is_vector<G: Game>(game: &G, state: u8, number: u32) -> bool
 }
 
 // Whether the number is a choice of the group at the state.
+#[tactic(auto, using(crate::proofs::Tested::tests_choice))]
 pub fn is_choice<G: Game>(game: &G, state: u8, group: u8, number: u32) -> bool
     ensures { Decides result ((state < (G.Game.meaning game.now).states) × Choice (G.Game.meaning game.now) group state number) }
 {

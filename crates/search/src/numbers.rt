@@ -1,5 +1,5 @@
 // The numbers under the highest one, four bits a player, from the lowest on.
-ghost use Rattle.std.specs.Prelude.{◌≡◌, ℕ, min, Some};
+ghost use Rattle.std.specs.Prelude.{◌≡◌, min, Some};
 ghost use Rattle.std.specs.Iterator.{YieldsFirst, item_count};
 ghost use Rattle.game.specs.Lists.{from, lowest as lowest_of, following as following_of};
 ghost use Rattle.search.specs.Left.{numbers_left};
@@ -11,7 +11,7 @@ fn first_move(moves: u32) -> u32
     moves.min(1)
 }
 
-// The lowest number under the highest one.
+// The lowest number under the highest one. Like the next one it is made from its last digit on, so no digit's weight is carried along.
 #[tactic(auto, using(crate::proofs::Turns::lowest_none, crate::proofs::Turns::lowest_turn, crate::proofs::Turns::lowest_room))]
 pub fn lowest(players: u8, highest: u32) -> u32
     ensures { result ≡ lowest_of players highest }
