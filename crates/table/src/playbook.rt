@@ -31,7 +31,7 @@ fn kept_to<G: Game>(game: &G, state: u8, group: u8, inside: &[bool; 256]) -> u32
 fn has_room(len: usize, place: usize, size: usize) -> bool
     ensures { result ≡ nat_le (place + size) len }
 {
-    size <= len && place <= len - size
+    place.checked_add(size).is_some_and(|end| end <= len)
 }
 
 impl Rule {

@@ -75,19 +75,10 @@ impl Table {
         ensures table { Wrote self.old self.new group r s (taken players self.old.count kind group r s) }
     {
         let rule = self.admit(players, kind, group, r, s)?;
-        Ok(self.push(rule))
-    }
-
-    fn push(&mut self, rule: Rule) -> u8
-        requires { self.old.count < 32 }
-        ensures answer { result ≡ self.old.count }
-        ensures count { self.new.count ≡ self.old.count + 1 }
-        ensures rules { self.new.rules ≡ slice_set self.old.rules self.old.count rule }
-    {
         let number = self.count;
         self.rules[number as usize] = rule;
-        self.count = number + 1;
-        number
+        self.count += 1;
+        Ok(number)
     }
 
     fn pop(&mut self) -> Result<u8, Refusal>

@@ -22,7 +22,7 @@ pub struct Rule {
     pub(crate) condition: Condition,
 }
 
-// The rules that stand are the first `count`, rule n at place n.
+// The rules that stand are the first `count`, rule n at place n: an array, since no call of a board allocates.
 #[derive(Clone, Copy)]
 pub struct Table {
     pub(crate) rules: [Rule; 32],
