@@ -6,9 +6,12 @@ use Rattle.book.specs.declared.field.Field.{Field}
 use Rattle.book.specs.declared.field.FieldReader.{FieldReader}
 use Rattle.book.specs.declared.filed.FiledBook.{FiledBook}
 use Rattle.book.specs.declared.heading.Heading.{Heading}
+use Rattle.book.specs.declared.rules.RuleField.{RuleField}
+use Rattle.book.specs.declared.rules.RuleFields.{RuleFields}
 use Rattle.book.specs.declared.rules.Rules.{Rules}
 use Rattle.book.specs.Fields.{after, value, spot}
 use Rattle.book.specs.Layout.{players_in, states_in, start_in, rules_from}
+use Rattle.book.specs.Told.{rules_told}
 use Rattle.book.specs.Filed.{filed}
 use Rattle.book.specs.Limited.{filed_limits}
 
@@ -56,6 +59,10 @@ unread b = b.bytes.now
 -- the fields of the rules
 abbrev pub told : Rules → List ℕ
 told r = r.bytes.now
+
+-- the rules that are left
+abbrev pub left : RuleFields → List RuleField
+left r = rules_told r.bytes.now
 
 -- the rules are those over the bytes bs
 abbrev pub Over : List ℕ → Rules → Type 0

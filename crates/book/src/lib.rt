@@ -12,7 +12,7 @@ mod rules;
 pub use book::{UnreadBook, read_rules};
 pub use fault::{Cause, Fault, Layer};
 pub use filed::FiledBook;
-pub use rules::{RuleField, Rules};
+pub use rules::{RuleField, RuleFields, Rules};
 
 #[cfg(test)]
 mod tests {
@@ -66,6 +66,7 @@ mod tests {
         assert_eq!(rt; filed.next(0, 0x22), Some(1));
         assert_eq!(rt; filed.next(1, 0x12), None);
         assert_eq!(rt; filed.rules().len(), 3);
+        assert_eq!(rt; filed.rules().iter().count(), 3);
         assert_eq!(rt;
             filed.rules().get(1),
             Some(RuleField {

@@ -1,7 +1,8 @@
 // The rules of a book, each a field of seven bytes.
 ghost use Rattle.std.specs.Prelude.{◌≡◌};
-ghost use Rattle.book.specs.Readers.{told};
-ghost use Rattle.book.specs.Told.{rule_count, rule_told};
+ghost use Rattle.std.specs.Iterator.{YieldsFirst, item_count};
+ghost use Rattle.book.specs.Readers.{told, left};
+ghost use Rattle.book.specs.Told.{rule_count, rule_told, Tells};
 
 // The four values of a rule, as they stand in the book.
 #[derive(Clone, Copy, PartialEq, Eq, Debug)]
@@ -18,7 +19,35 @@ pub struct Rules<'a> {
     pub(crate) bytes: &'a [u8],
 }
 
-impl Rules<'_> {
+// One rule after another, over the bytes of those that are left.
+#[derive(Drop)]
+pub struct RuleFields<'a> {
+    pub(crate) bytes: &'a [u8],
+}
+
+impl Iterator for RuleFields<'_> {
+    type Item = RuleField;
+
+    ghost next_gives = { YieldsFirst left };
+
+    ghost remaining = { item_count left };
+
+    #[tactic(auto, using(crate::proofs::Telling::rules_next, crate::proofs::Telling::rules_fewer))]
+    fn next(&mut self) -> Option<RuleField> {
+        let [_, _, _, kind, group, r, s, rest @ ..] = self.bytes else {
+            return None;
+        };
+        self.bytes = rest;
+        Some(RuleField {
+            kind: *kind,
+            group: *group,
+            r: *r,
+            s: *s,
+        })
+    }
+}
+
+impl<'a> Rules<'a> {
     // How many there are.
     pub fn len(&self) -> usize
         ensures { result ≡ rule_count (told self.now) }
@@ -33,12 +62,17 @@ impl Rules<'_> {
         if k >= self.len() {
             return None;
         }
-        let at = 7 * k;
-        Some(RuleField {
-            kind: self.bytes[at + 3],
-            group: self.bytes[at + 4],
-            r: self.bytes[at + 5],
-            s: self.bytes[at + 6],
-        })
+        let mut from = RuleFields {
+            bytes: &self.bytes[7 * k..],
+        };
+        from.next()
+    }
+
+    // The rules, from the first.
+    #[tactic(auto, using(crate::proofs::Telling::tells_told))]
+    pub fn iter(&self) -> RuleFields<'a>
+        ensures { Tells (told self.now) (left result) }
+    {
+        RuleFields { bytes: self.bytes }
     }
 }
