@@ -17,33 +17,23 @@ mod tests {
     use std::test::Fail;
 
     fn drill(limit: u8) -> Result<Drill, Fail> {
-        match Drill::new(limit) {
-            Ok(drill) => Ok(drill),
-            Err(_) => Err(Fail::new("no drill of this limit")),
-        }
-    }
-
-    fn limit_refused(limit: u8) -> u8 {
-        match Drill::new(limit) {
-            Ok(_) => 0,
-            Err(refusal) => refusal.number(),
-        }
+        Drill::new(limit).map_err(|_| Fail::new("no drill of this limit"))
     }
 
     // The number of the refusal, or 0 where the call was taken.
     fn refused<T: Drop>(answer: Result<T, Refusal>) -> u8 {
         match answer {
             Ok(_) => 0,
-            Err(refusal) => refusal.number(),
+            Err(refusal) => u8::from(refusal),
         }
     }
 
     #[test]
     fn drill_limits(rt: HostRuntime) -> Result<(), Fail> {
-        assert_eq!(rt; limit_refused(0), 13);
-        assert_eq!(rt; limit_refused(1), 0);
-        assert_eq!(rt; limit_refused(253), 0);
-        assert_eq!(rt; limit_refused(254), 13);
+        assert_eq!(rt; refused(Drill::new(0)), 13);
+        assert_eq!(rt; refused(Drill::new(1)), 0);
+        assert_eq!(rt; refused(Drill::new(253)), 0);
+        assert_eq!(rt; refused(Drill::new(254)), 13);
         let (states, start) = drill(253)?.states();
         assert!(rt; states == 256 && start == 0);
         Ok(())
@@ -165,7 +155,7 @@ mod tests {
         let unread = UnreadBook { bytes };
         match unread.read() {
             Ok(_) => (0, 0),
-            Err(fault) => (fault.cause.number(), fault.byte),
+            Err(fault) => (u8::from(fault.cause), fault.byte),
         }
     }
 
@@ -242,12 +232,7 @@ mod tests {
     // The fault of the first bytes of the meeting book: its fields stand at these places, and its rules from 33 on.
     fn truncated(len: usize) -> (u8, usize) {
         let fields = [0usize, 6, 17, 25, 33, 40, 47, 54];
-        let mut field = 0;
-        for i in 0..8usize {
-            if fields[i] <= len {
-                field = fields[i];
-            }
-        }
+        let field = fields.into_iter().filter(|at| *at <= len).max().unwrap_or(0);
         if field < len {
             (16, field)
         } else if field < 33 {

@@ -19,7 +19,6 @@ enum Order {
     List,
     Drill(u8),
     Playbook(usize),
-    Unknown,
 }
 
 fn input(rt: &HostRuntime) -> io::Result<Vec<u8>> {
@@ -29,44 +28,44 @@ fn input(rt: &HostRuntime) -> io::Result<Vec<u8>> {
 }
 
 // What a word with a number asks for. A limit that no byte holds is as far out of range as 0.
-fn asked_for(word: &str, number: usize) -> Order
+fn asked_for(word: &str, number: usize) -> Option<Order>
     ensures { Asks word.now number result }
 {
     match word {
-        "drill" => Order::Drill(if number < 256 { number as u8 } else { 0 }),
-        "playbook" => Order::Playbook(number),
-        _ => Order::Unknown,
+        "drill" => Some(Order::Drill(u8::try_from(number).unwrap_or(0))),
+        "playbook" => Some(Order::Playbook(number)),
+        _ => None,
     }
 }
 
-fn order_of(rt: &HostRuntime) -> io::Result<Order> {
+fn order_of(rt: &HostRuntime) -> io::Result<Option<Order>> {
     let mut words = env::args(rt)?;
     let _program = words.next();
     let Some(word) = words.next() else {
-        return Ok(Order::List);
+        return Ok(Some(Order::List));
     };
     let Some(number) = words.next() else {
-        return Ok(Order::Unknown);
+        return Ok(None);
     };
     if words.next().is_some() {
-        return Ok(Order::Unknown);
+        return Ok(None);
     }
     match number.as_str().parse::<usize>() {
         Ok(number) => Ok(asked_for(word.as_str(), number)),
-        Err(_) => Ok(Order::Unknown),
+        Err(_) => Ok(None),
     }
 }
 
 fn main(rt: HostRuntime) -> anyhow::Result<ExitCode> {
     let heap = rt.alloc();
-    let report = match order_of(&rt)? {
+    let Some(order) = order_of(&rt)? else {
+        rt.eprint(USAGE)?;
+        return Ok(ExitCode::FAILURE);
+    };
+    let report = match order {
         Order::List => list_book(heap, input(&rt)?.as_slice())?,
         Order::Drill(limit) => list_drill(heap, limit, input(&rt)?.as_slice())?,
         Order::Playbook(rule) => playbook_of_book(heap, input(&rt)?.as_slice(), rule)?,
-        Order::Unknown => {
-            rt.eprint(USAGE)?;
-            return Ok(ExitCode::FAILURE);
-        }
     };
     match report {
         Report::Listing(text) => rt.print(text.as_str())?,

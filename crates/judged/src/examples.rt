@@ -91,10 +91,7 @@ pub fn meeting_book() -> &'static [u8]
 fn drill() -> Drill
     ensures { result.limit ≡ 1 }
 {
-    match Drill::new(1) {
-        Ok(drill) => drill,
-        Err(_) => unreachable(),
-    }
+    Drill::new(1).unwrap()
 }
 
 // Sets an entry of the drill's binding, which is a choice there.
@@ -131,10 +128,7 @@ fn meeting() -> FiledBook<'static>
     let unread = UnreadBook {
         bytes: meeting_book(),
     };
-    match unread.read() {
-        Ok(filed) => filed,
-        Err(_) => unreachable(),
-    }
+    unread.read().unwrap()
 }
 
 // The table of the drill, and then the playbook of rule 6.

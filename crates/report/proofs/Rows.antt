@@ -1,11 +1,11 @@
 -- The rules judged one after another.
-use Rattle.std.proofs.Common.{IsErrAnd, ◌≡◌, ℕ, zero, suc, ◌+◌, ◌<◌, ◌≤◌, true, false, ltb, List, [], ◌∷◌, ◌++◌, length, Some, None, Ok, Err, vec_items, Option, Result, Vec, sym, refl, ap, ◌∙◌, subst, ap₂, ⊎_elim, arith, length-append}
+use Rattle.std.proofs.Common.{IsErrAnd, slice_index_or, ◌≡◌, ℕ, zero, suc, ◌+◌, ◌<◌, ◌≤◌, true, false, ltb, List, [], ◌∷◌, ◌++◌, length, Some, None, Ok, Err, vec_items, Option, Result, Vec, sym, refl, ap, ◌∙◌, subst, ap₂, ⊎_elim, arith, length-append}
 use Rattle.std.proofs.lemmas.Bool.{ltb-true, ltb-false, cases_Bool, cond-true, cond-false, cases_lt}
 use Rattle.std.specs.declared.alloc.Global.{Global}
 use Rattle.game.specs.Structure.{Structure}
 use Rattle.refusal.specs.declared.Refusal.{Refusal}
 use Rattle.book.specs.declared.rules.RuleField.{RuleField}
-use Rattle.book.specs.Told.{rule_count, rule_told}
+use Rattle.book.specs.Told.{rule_count, rule_told, no_rule, Tells}
 use Rattle.atl.specs.declared.Shown.{Shown}
 use Rattle.table.specs.declared.types.Table.{Table}
 use Rattle.table.specs.Answers.{nothing}
@@ -50,11 +50,23 @@ told_some bs k f e = ⊎_elim
     same : {a b : RuleField} → ◌≡◌ {A = Option RuleField} (Some a) (Some b) → b ≡ a
     same i = cc
 
-pub told_none : (bs : List ℕ) (k : ℕ) → rule_told bs k ≡ None → rule_count bs ≤ k
-told_none bs k e = ⊎_elim
-    (λ (b : ltb k (rule_count bs) ≡ true). let i = sym (cond-true _ (Some (rule_number bs k)) None b) ∙ e in absurd (let z : ◌≡◌ {A = ℕ} 0 1 = cc in omega arith))
-    (λ (b : ltb k (rule_count bs) ≡ false). ltb-false k (rule_count bs) b)
-    (cases_Bool (ltb k (rule_count bs)))
+-- The rules that an iterator yields, ys so far.
+at_end : (ys rest : List RuleField) (f d : RuleField) → slice_index_or (ys ++ f ∷ rest) (length ys) d ≡ f
+at_end [] rest f d = refl
+at_end (y ∷ ys) rest f d = at_end ys rest f d
+
+module _ (bs : List ℕ) (rs : List RuleField) (tells : Tells bs rs) (ys : List RuleField) (n : ℕ) (many : length ys ≡ n) where
+  pub told_next : (f : RuleField) (rest : List RuleField) → ys ++ f ∷ rest ≡ rs → rule_told bs n ≡ Some f
+  told_next f rest e =
+      let long : length ys + suc (length rest) ≡ length rs = sym (length-append ys (f ∷ rest)) ∙ ap length e in
+      tells.each n (omega (arith, long, many))
+      ∙ ap Some (ap₂ (λ (l : List RuleField) k. slice_index_or l k no_rule) (sym e) (sym many) ∙ at_end ys rest f no_rule)
+
+  pub told_all : (rest : List RuleField) → ys ++ rest ≡ rs → rest ≡ [] → rule_count bs ≤ n
+  told_all rest e none =
+      let long : length ys + length rest ≡ length rs = sym (length-append ys rest) ∙ ap length e in
+      let z : length rest ≡ 0 = ap length none in
+      omega (arith, tells.many, long, many, z)
 
 -- what was refused stays so
 pub judged_stays : (m : Structure) (rule : ℕ → RuleField) (k j : ℕ) (p : ℕ × Refusal) → k ≤ j → judged m rule k ≡ Err p → judged m rule j ≡ Err p
@@ -106,9 +118,9 @@ module _ (m : Structure) (bs : List ℕ) where
           text = ap (rows_text 0) er ∙ rows_push 0 (length st) rows row up ∙ ap₂ (λ (u v : List ℕ). u ++ v) so_far.text (ap₂ (λ (k : ℕ) (l : List Shown). rule_text (length st) k l) w.3.rounds w.3.marks);
         }
 
-  pub so_far_all : (t : Table) (rows : List Row) (n : ℕ) → RowsSoFar m bs rows n t → rule_told bs n ≡ None → RowsRight m bs t rows
+  pub so_far_all : (t : Table) (rows : List Row) (n : ℕ) → RowsSoFar m bs rows n t → rule_count bs ≤ n → RowsRight m bs t rows
   so_far_all t rows n so_far e =
-      let z : n ≡ rule_count bs = omega (arith, so_far.within, told_none bs n e) in
+      let z : n ≡ rule_count bs = omega (arith, so_far.within, e) in
       record { stands = so_far.stands; judged_is = subst (λ k. judged m (rule_number bs) k ≡ Ok so_far.stands) z so_far.judged_is; reached = so_far.reached; text = so_far.text }
 
   pub so_far_small : (t : Table) (rows : List Row) (n : ℕ) → RowsSoFar m bs rows n t → n < 256

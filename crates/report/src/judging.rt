@@ -74,8 +74,8 @@ impl<G: Game> Judging<G> {
         ensures judged { AllJudged (G.Game.meaning self.old.board.game) (told rules.entry) self.new.board.table result }
     {
         let mut rows = Vec::new(self.heap);
-        while let Some(field) = rules.get(rows.len()) {
-            let row = self.rule(rows.len() as u8, field)?;
+        for (rule, field) in rules.iter().enumerate() {
+            let row = self.rule(rule as u8, field)?;
             rows.push(row)?;
         }
         Ok(rows)

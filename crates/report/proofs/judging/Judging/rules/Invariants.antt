@@ -1,13 +1,12 @@
-use Rattle.std.proofs.Common.{◌≡◌, ◌-◌, vec_items, vec_len}
-use Rattle.book.specs.Readers.{told}
-use Rattle.book.specs.Told.{rule_count}
+use Rattle.std.proofs.Common.{◌≡◌, ◌++◌, length, vec_items, vec_len}
+use Rattle.book.specs.Readers.{told, left}
 use Rattle.report.specs.Steps.{RowsSoFar}
 use Rattle.report.proofs.judging.Judging.rules.Given as goal
 
-abbrev pub invariant-loop-field : goal.invariant-loop-field
-invariant-loop-field g l =
+abbrev pub invariant-loop-rule : goal.invariant-loop-rule
+invariant-loop-rule g l =
     (l.self.board.game ≡ l.initial.self.board.game)
-    × RowsSoFar (g.G.Game.meaning l.initial.self.board.game) (told l.rules) (vec_items l.rows) (vec_len l.rows) l.self.board.table
-
-abbrev pub decreases-loop-field : goal.decreases-loop-field
-decreases-loop-field g l = rule_count (told l.rules) - vec_len l.rows
+    × RowsSoFar (g.G.Game.meaning l.initial.self.board.game) (told l.fn.rules) (vec_items l.rows) (vec_len l.rows) l.self.board.table
+    × (vec_len l.rows ≡ l.rule)
+    × (length l.yielded ≡ l.rule)
+    × (l.yielded ++ left l.field-iterator ≡ left l.initial.field-iterator)
