@@ -1,5 +1,5 @@
 // What the kind of a rule asks of its group and its parts.
-ghost use Rattle.std.specs.Prelude.{◌≡◌, ℕ, ◌^◌, Bool, cond, not, ◌||◌};
+ghost use Rattle.std.specs.Prelude.{◌≡◌};
 ghost use Rattle.table.specs.Parts.{uses_r, uses_s, has_group, bad_group, bad_part};
 ghost use Rattle.table.specs.Answers.{below};
 

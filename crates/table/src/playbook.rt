@@ -1,10 +1,10 @@
 // The playbook of a settled can-rule.
-ghost use Rattle.std.specs.Prelude.{◌≡◌, ℕ, ◌+◌, ◌*◌, ◌<◌, ◌≤◌, length, nat_le};
+ghost use Rattle.std.specs.Prelude.{◌≡◌, ◌+◌, ◌*◌, ◌<◌, length, nat_le};
 ghost use Rattle.game.specs.Serving.{set_of};
 ghost use Rattle.atl.specs.Playbook.{keep_to, yes_below};
 ghost use Rattle.table.specs.Answers.{play_answer, copy_answer, book_bytes};
 ghost use Rattle.table.specs.Shows.{Answers};
-ghost use Rattle.table.specs.Books.{Below, choice_of, temporal_of, book_in, Buffered, KeptIfRefused};
+ghost use Rattle.table.specs.Books.{Below, choice_of, book_in, Buffered, KeptIfRefused};
 
 use crate::rule::has;
 use crate::types::{Condition, Parts, Rule, Table};

@@ -1,9 +1,8 @@
 // One rule of the table: its rounds.
-ghost use Rattle.std.specs.Prelude.{◌≡◌, ℕ, suc, ◌+◌, ◌<◌, ◌≤◌, Bool, true, false, not, ◌&&◌, ◌||◌, length, if◌then◌else◌, ◌==◌};
+ghost use Rattle.std.specs.Prelude.{◌≡◌, suc, ◌<◌, true, not, ◌&&◌, ◌||◌, if◌then◌else◌, ◌==◌};
 ghost use Rattle.game.specs.Serving.{set_of};
 ghost use Rattle.atl.specs.declared.Mark.TheVariants.{Open};
-ghost use Rattle.atl.specs.Rounds.{holds as holds_for, labelled as labelled_at, is_open, is_yes, one_round, closed as closed_as, once};
-ghost use Rattle.table.specs.Parts.{uses_r, uses_s, has_group};
+ghost use Rattle.atl.specs.Rounds.{holds as holds_for, labelled as labelled_at, is_open, one_round, closed as closed_as, once};
 ghost use Rattle.table.specs.Shows.{condition_of};
 ghost use Rattle.table.specs.Steps.{rounds_in, is_settled, fresh_rule, YesMarks, aimed, Aim, proposal, new_mark, Passed, Closed, Worked};
 

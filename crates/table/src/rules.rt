@@ -1,12 +1,11 @@
 // The table of rules: what each call does to it.
-ghost use Rattle.std.specs.Prelude.{◌≡◌, ℕ, ◌+◌, ◌-◌, ◌^◌, ◌<◌, ◌≤◌, Bool, true, false, cond, not, ◌&&◌, ◌||◌, length, slice_set, MatchResult};
+ghost use Rattle.std.specs.Prelude.{◌≡◌, ◌<◌, ◌≤◌, length, MatchResult};
 ghost use Rattle.game.specs.Structure.{Structure};
 ghost use Rattle.refusal.specs.declared.Refusal.TheVariants.{NoRule};
-ghost use Rattle.atl.specs.declared.Mark.TheVariants.{Open};
-ghost use Rattle.table.specs.Parts.{uses_r, uses_s, has_group, bad_group, bad_part, waits};
-ghost use Rattle.table.specs.Answers.{below, taken, number_if, write_answer, write_after, erase_answer, erase_after, round_answer, round_after, ask_answer, tell_answer};
+ghost use Rattle.table.specs.Parts.{waits};
+ghost use Rattle.table.specs.Answers.{taken, number_if, write_answer, write_after, erase_answer, erase_after, round_answer, round_after, ask_answer, tell_answer};
 ghost use Rattle.table.specs.Shows.{rule_at, Does, Answers, FewRounds};
-ghost use Rattle.table.specs.Steps.{rounds_in, is_settled, ask_table, tell_table, fresh_rule, admitted, Wrote, erase_table, Erased, settled_in, due_table, YesArray, PartsOf};
+ghost use Rattle.table.specs.Steps.{ask_table, tell_table, admitted, Wrote, erase_table, Erased, settled_in, due_table, YesArray, PartsOf};
 
 use crate::types::{Parts, Rule, Table};
 use atl::{Kind, Shown};
