@@ -34,6 +34,13 @@ fn has_room(len: usize, place: usize, size: usize) -> bool
     place.checked_add(size).is_some_and(|end| end <= len)
 }
 
+// Where the state's choice stands in a playbook's bytes.
+fn place_of(state: u16) -> usize
+    ensures { result ≡ state * 4 }
+{
+    usize::from(state) * 4
+}
+
 impl Rule {
     // The states marked yes with a number below this one.
     fn yes_states_below(&self, number: u16) -> [bool; 256]
@@ -78,7 +85,7 @@ impl Rule {
         let (states, _) = game.states();
         for state in 0..states {
             let choice = self.choice(game, temporal, state as u8, parts);
-            let at = state as usize * 4;
+            let at = place_of(state);
             bytes[at..at + 4].copy_from_slice(&choice.to_be_bytes());
         }
     }
