@@ -27,7 +27,7 @@ impl Condition {
         matches!(self, Condition::Settled(_))
     }
 
-    // The condition after a round that marked so many states.
+    // The condition after a round that marked so many states. The sum saturates: the type allows any count of rounds, though a rule that stands has few.
     fn after(self, kind: Kind, marked: u16) -> Condition
         ensures { rounds_in self < 65535 → result ≡ condition_of (suc (rounds_in self)) (one_round kind || marked == 0) }
     {
