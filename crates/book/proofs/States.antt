@@ -1,5 +1,5 @@
 -- The steps of the tests of a state.
-use Rattle.std.proofs.Common.{◌≡◌, ℕ, ◌+◌, ◌-◌, ◌*◌, ◌^◌, ◌<◌, ◌≤◌, List, length, get_or, take, drop, Ok, Err, Result, refl, ap, ◌∙◌, subst, inr, le_trans, mul-le-mul, mul_comm, add-one, arith, lit<, length-take}
+use Rattle.std.proofs.Common.{◌≡◌, ℕ, ◌+◌, ◌-◌, ◌*◌, ◌^◌, ◌<◌, ◌≤◌, List, length, get_or, take, drop, Ok, Err, Result, ap, ap₂, sym, ◌∙◌, subst, inr, le_trans, mul-le-mul, mul_comm, add-one, arith, lit<, length-take}
 use Rattle.std.proofs.lemmas.List.{get_or-take, get_or-drop}
 use native.Mathlib.Nat.{pow-succ', pow-le-pow_right}
 use Rattle.book.specs.declared.fault.Fault.{Fault}
@@ -21,7 +21,7 @@ pub count_is : (v : List ℕ) (i : ℕ) → count_in v (i + 1) ≡ get_or v (2 +
 count_is v i = let e : 1 + (i + 1) ≡ 2 + i = omega arith in ap (λ k. get_or v k 0) e
 
 pub product_more : (v : List ℕ) (i n m : ℕ) → m ≡ count_in v (i + 1) → n ≡ product_in i v → n * m ≡ product_in (i + 1) v
-product_more v i n m f e = rw (add-one, mul_comm, f, e, add-one) refl
+product_more v i n m f e = mul_comm n m ∙ (ap₂ (λ x y. x * y) (f ∙ ap (count_in v) (add-one i)) e ∙ sym (ap (λ k. product_in k v) (add-one i)))
 
 pub power_more : (m n i : ℕ) → m ≤ 15 → n ≤ 15 ^ i → m * n ≤ 15 ^ (i + 1)
 power_more m n i h k = rw (add-one, pow-succ') (mul-le-mul h k)

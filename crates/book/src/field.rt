@@ -13,6 +13,9 @@ pub(crate) struct Field<'a> {
 }
 
 impl Field<'_> {
+    ghost use Rattle.std.specs.Prelude.{◌≡◌};
+    ghost use Rattle.book.specs.declared.fault.Cause.TheVariants.{OutOfRange};
+    ghost use Rattle.book.specs.Faults.{fault};
     ghost use Rattle.book.specs.Tests.{Judged, Anything};
     ghost use Rattle.book.specs.Records.{tag_test, length_test};
 
@@ -34,6 +37,14 @@ impl Field<'_> {
             return Err(Fault::at(Cause::WrongLength, self.at));
         }
         Ok(())
+    }
+
+    // Byte `k` of the value is out of its range.
+    pub(crate) fn out_of_range(self, k: usize) -> Fault
+        requires { k < length self.value.now }
+        ensures { result ≡ fault OutOfRange (self.entry.at + 3 + k) }
+    {
+        Fault::at(Cause::OutOfRange, self.at + 3 + k)
     }
 }
 

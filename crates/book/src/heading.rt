@@ -1,7 +1,7 @@
 // The heading of a book.
 ghost use Rattle.std.specs.Prelude.{◌≤◌};
 
-use crate::fault::{Cause, Fault};
+use crate::fault::Fault;
 use crate::field::Field;
 
 #[derive(Clone, Copy)]
@@ -9,6 +9,7 @@ pub(crate) struct Heading {
     pub(crate) players: u8,
     pub(crate) states: u16,
     pub(crate) start: u8,
+    ghost some_player: { 1 ≤ players },
     ghost few_players: { players ≤ 6 },
 }
 
@@ -26,10 +27,10 @@ impl Heading {
         let states = u16::from(field.value[1]) + 1;
         let start = field.value[2];
         if !(1..=6).contains(&players) {
-            return Err(Fault::at(Cause::OutOfRange, field.at + 3));
+            return Err(field.out_of_range(0));
         }
         if u16::from(start) >= states {
-            return Err(Fault::at(Cause::OutOfRange, field.at + 5));
+            return Err(field.out_of_range(2));
         }
         Ok(Heading {
             players,

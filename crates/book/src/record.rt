@@ -26,7 +26,7 @@ fn counts(heading: Heading, field: Field<'_>) -> Result<usize, Fault>
     let mut product: usize = 1;
     for (i, count) in field.value[2..2 + players].iter().enumerate() {
         if !(1..=15).contains(count) {
-            return Err(Fault::at(Cause::OutOfRange, field.at + 5 + i));
+            return Err(field.out_of_range(2 + i));
         }
         product *= usize::from(*count);
     }
@@ -41,7 +41,7 @@ fn nexts(heading: Heading, field: Field<'_>) -> Result<(), Fault>
     let first = 2 + usize::from(heading.players);
     for (j, next) in field.value[first..].iter().enumerate() {
         if u16::from(*next) >= heading.states {
-            return Err(Fault::at(Cause::OutOfRange, field.at + 3 + first + j));
+            return Err(field.out_of_range(first + j));
         }
     }
     Ok(())
@@ -57,7 +57,7 @@ fn state(heading: Heading, field: Field<'_>) -> Result<(), Fault>
     }
     let product = counts(heading, field)?;
     if product > 4096 {
-        return Err(Fault::at(Cause::OutOfRange, field.at + 5));
+        return Err(field.out_of_range(2));
     }
     field.sized(least + product)?;
     nexts(heading, field)

@@ -1,4 +1,6 @@
-use Rattle.std.proofs.Common.{◌≡◌, ◌+◌, ◌-◌, ◌*◌, ◌^◌, ◌≤◌, get_or, take, drop, inl, sym, subst, arith, rules, ◌∙◌, mul_comm}
+use Rattle.std.proofs.Common.{◌≡◌, ◌+◌, ◌-◌, ◌*◌, ◌^◌, ◌≤◌, get_or, take, drop, inl, ap, sym, subst, arith, rules, ◌∙◌, mul_comm}
+use Rattle.book.specs.declared.fault.Cause.TheVariants.{OutOfRange}
+use Rattle.book.specs.Faults.{fault}
 use Rattle.book.specs.Records.{Within, count_tests, count_in}
 use Rattle.book.proofs.Judging.{each_stop, each_more}
 use Rattle.book.proofs.States.{part_below, part_read, count_is, product_more, power_more, power_fits}
@@ -9,7 +11,7 @@ returns-then-not-contains c =
     let v = c.args.field.value.now in
     let l = part_below v 2 (2 + c.from-players.result - 2) c.loop-i.i c.loop-i-test.true in
     let n : Within 1 15 (get_or (take (2 + c.from-players.result - 2) (drop 2 v)) c.loop-i.i 0) → ⊥ = search rules in
-    each_stop c.args.heading.players c.loop-i.i (count_tests v c.args.field.at) c.at.result (omega arith) c.loop-i.invariant.0 (inl (subst (λ x. Within 1 15 x → ⊥) (part_read v 2 (2 + c.from-players.result - 2) c.loop-i.i c.loop-i-test.true ∙ sym (count_is v c.loop-i.i)) n, search rules))
+    each_stop c.args.heading.players c.loop-i.i (count_tests v c.args.field.at) c.out_of_range.result (omega arith) c.loop-i.invariant.0 (inl (subst (λ x. Within 1 15 x → ⊥) (part_read v 2 (2 + c.from-players.result - 2) c.loop-i.i c.loop-i-test.true ∙ sym (count_is v c.loop-i.i)) n, c.out_of_range.ensures ∙ ap (fault OutOfRange) (omega arith)))
 
 within : (c : goal.After-from-product) → Within 1 15 c.from-product.result
 within c = search rules

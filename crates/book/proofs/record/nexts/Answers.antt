@@ -1,5 +1,7 @@
-use Rattle.std.proofs.Common.{◌≡◌, ℕ, ap, get_or, ◌+◌, ◌-◌, length, inl, arith, rules, subst, length-take, length-drop}
+use Rattle.std.proofs.Common.{◌≡◌, ℕ, ap, get_or, ◌+◌, ◌-◌, length, inl, ◌∙◌, arith, subst, length-take, length-drop}
 use Rattle.book.specs.Tests.{Passes, each}
+use Rattle.book.specs.declared.fault.Cause.TheVariants.{OutOfRange}
+use Rattle.book.specs.Faults.{fault}
 use Rattle.book.specs.Records.{next_tests}
 use Rattle.book.proofs.Judging.{each_stop, each_more}
 use Rattle.book.proofs.States.{part_below, part_read}
@@ -12,8 +14,8 @@ returns-then-from-heading c =
     let l = part_below v first (length v - first) c.loop-j.j c.loop-j-test.true in
     let e = part_read v first (length v - first) c.loop-j.j c.loop-j-test.true in
     let s : first ≡ 2 + c.args.heading.players = omega arith in
-    each_stop (length v - (2 + c.args.heading.players)) c.loop-j.j (next_tests c.args.heading.players c.args.heading.states v c.args.field.at) c.at.result (omega arith) c.loop-j.invariant
-    (inl (λ w. absurd (omega (arith, c.from.ensures, e, ap (λ k. get_or v (k + c.loop-j.j) 0) s)), search rules))
+    each_stop (length v - (2 + c.args.heading.players)) c.loop-j.j (next_tests c.args.heading.players c.args.heading.states v c.args.field.at) c.out_of_range.result (omega arith) c.loop-j.invariant
+    (inl (λ w. absurd (omega (arith, c.from.ensures, e, ap (λ k. get_or v (k + c.loop-j.j) 0) s)), c.out_of_range.ensures ∙ ap (fault OutOfRange) (omega arith)))
 
 pub returns : goal.returns
 returns c =
