@@ -1,79 +1,70 @@
 // The five answers of a filed book, compared with what the book was made from.
 use crate::content::{Content, Page};
 use crate::layout::vector_at;
+use crate::places::at;
 use crate::tally::{Tally, add};
 use crate::words::Rule;
 use book::{FiledBook, RuleField};
 use game::Game;
 use std::alloc::AllocError;
 
-fn count_of(content: &Content, player: u8, state: u8) -> u8 {
-    match content.pages.get(state as usize) {
-        Some(page) if player > 0 => page.counts.get(player as usize - 1).copied().unwrap_or(0),
-        _ => 0,
+fn count_of(page: &Page, player: u8) -> u8 {
+    match player.checked_sub(1) {
+        Some(place) => at(&page.counts, place as usize, 0),
+        None => 0,
     }
 }
 
-// Players, states, and at each state that a byte names the labels and the moves.
+// At a state that a byte names: the labels and the moves, of a state that there is not 0.
+fn is_page(filed: &FiledBook<'_>, state: u8, page: Option<&Page>) -> bool {
+    filed.labels(state) == page.map_or(0, |page| page.labels)
+        && (0..9u8).all(|player| {
+            filed.moves(player, state) == page.map_or(0, |page| count_of(page, player))
+        })
+}
+
+// Players, states, and what there is at each state.
 fn is_told(filed: &FiledBook<'_>, content: &Content) -> bool {
-    let mut same = filed.players() == content.players
-        && filed.states() == (content.states, content.start);
-    for state in 0..=u8::MAX {
-        let labels = match content.pages.get(state as usize) {
-            Some(page) => page.labels,
-            None => 0,
-        };
-        same = same && filed.labels(state) == labels;
-        for player in 0..9u8 {
-            same = same && filed.moves(player, state) == count_of(content, player, state);
-        }
-    }
-    same
+    filed.players() == content.players
+        && filed.states() == (content.states, content.start)
+        && (0..=u8::MAX).all(|state| is_page(filed, state, content.pages.get(state as usize)))
 }
 
 // Each vector leads where it should.
 fn leads(filed: &FiledBook<'_>, content: &Content, state: u8, page: &Page) -> bool {
-    let mut same = true;
-    for (place, next) in (0..u32::MAX).zip(page.nexts.iter()) {
+    let mut places = (0..u32::MAX).zip(page.nexts.iter());
+    places.all(|(place, next)| {
         let vector = vector_at(content.players, page.counts, place);
-        same = same && filed.next(state, vector) == Some(*next);
-    }
-    same
+        filed.next(state, vector) == Some(*next)
+    })
 }
 
 // What is near a vector and none itself leads nowhere: a move 0, one move too many, a player too many.
 fn leads_nowhere(filed: &FiledBook<'_>, content: &Content, state: u8, page: &Page) -> bool {
     let first = vector_at(content.players, page.counts, 0);
     let mut weight: u32 = 1;
-    let mut none = filed.next(state, 0).is_none();
     for count in page.counts.iter().take(content.players as usize) {
+        let under = first.wrapping_sub(weight);
         let over = first.wrapping_add(weight.wrapping_mul(u32::from(*count)));
-        none = none && filed.next(state, first.wrapping_sub(weight)).is_none();
-        none = none && filed.next(state, over).is_none();
+        if filed.next(state, under).is_some() || filed.next(state, over).is_some() {
+            return false;
+        }
         weight = weight.wrapping_mul(16);
     }
-    none && filed.next(state, first.wrapping_add(weight)).is_none()
+    let beyond = first.wrapping_add(weight);
+    filed.next(state, 0).is_none() && filed.next(state, beyond).is_none()
 }
 
-fn is_rule(told: Option<RuleField>, rule: Rule) -> bool {
-    match told {
-        Some(told) => {
-            told.kind == rule.kind
-                && told.group == rule.group
-                && told.r == rule.r
-                && told.s == rule.s
-        }
-        None => false,
-    }
+fn is_rule(told: RuleField, rule: Rule) -> bool {
+    [told.kind, told.group, told.r, told.s] == <[u8; 4]>::from(rule)
 }
 
 fn rules_told(filed: &FiledBook<'_>, content: &Content) -> bool {
-    let rules = filed.rules();
-    let mut same = rules.len() == content.rules.len() && rules.get(content.rules.len()).is_none();
-    for (k, rule) in content.rules.iter().enumerate() {
-        same = same && is_rule(rules.get(k), *rule);
-    }
-    same
+    let told = filed.rules();
+    let mut rules = content.rules.iter().enumerate();
+    told.len() == content.rules.len()
+        && told.get(content.rules.len()).is_none()
+        && rules.all(|(k, rule)| told.get(k).is_some_and(|told| is_rule(told, *rule)))
 }
 
 // Compares what a filed book answers with its content.

@@ -52,27 +52,21 @@ impl Plan {
 // One label in four is as likely as not, one rare, one frequent and one very rare.
 fn any_labels(luck: &mut Luck) -> u16 {
     let mut labels: u16 = 0;
-    for _ in 0..4 {
-        for often in [16u32, 4, 28, 1] {
-            labels = labels.wrapping_mul(2);
-            if luck.often(often) {
-                labels = labels.wrapping_add(1);
-            }
-        }
+    for often in [16u32, 4, 28, 1].iter().cycle().take(16) {
+        labels = labels << 1 | u16::from(luck.often(*often));
     }
     labels
 }
 
 fn any_counts(luck: &mut Luck, plan: Plan) -> Counts {
     let mut counts = [0u8; 6];
-    for i in 0..6u8 {
-        if i < plan.players {
-            let range = if luck.often(3) { 15 } else { 3 };
-            counts[i as usize] = luck.byte(range).saturating_add(1).min(15);
-            if product(i + 1, counts) > plan.most {
-                counts[i as usize] = 1;
-            }
-        }
+    let mut vectors: u32 = 1;
+    for count in counts.iter_mut().take(plan.players as usize) {
+        let range = if luck.often(3) { 15 } else { 3 };
+        let moves = luck.byte(range).saturating_add(1).min(15);
+        let fits = vectors.saturating_mul(u32::from(moves)) <= plan.most;
+        *count = if fits { moves } else { 1 };
+        vectors = vectors.saturating_mul(u32::from(*count));
     }
     counts
 }
@@ -93,10 +87,8 @@ fn any_next(luck: &mut Luck, plan: Plan, state: u8) -> u8 {
 impl Page {
     fn any(heap: Global, luck: &mut Luck, plan: Plan, state: u8) -> Result<Page, AllocError> {
         let counts = any_counts(luck, plan);
-        let mut nexts = Vec::new(heap);
-        for _ in 0..product(plan.players, counts) {
-            nexts.push(any_next(luck, plan, state))?;
-        }
+        let nexts = (0..product(plan.players, counts)).map(|_| any_next(luck, plan, state));
+        let nexts = nexts.collect(heap)?;
         Ok(Page {
             labels: any_labels(luck),
             counts,
@@ -106,12 +98,12 @@ impl Page {
 
     // Six players who have these counts of moves. Player 1's move 2 leads to state 1, whatever the others play.
     pub fn crowded(heap: Global, luck: &mut Luck, counts: Counts) -> Result<Page, AllocError> {
-        let mut nexts = Vec::new(heap);
         let first = u32::from(counts[0]);
-        for place in 0..product(6, counts) {
-            let sure = place.checked_rem(first) == Some(1);
-            nexts.push(if sure { 1 } else { luck.byte(3) })?;
-        }
+        let nexts = (0..product(6, counts)).map(|place| match place.checked_rem(first) {
+            Some(1) => 1,
+            _ => luck.byte(3),
+        });
+        let nexts = nexts.collect(heap)?;
         Ok(Page {
             labels: any_labels(luck),
             counts,
@@ -130,10 +122,8 @@ fn field(bytes: &mut Vec<u8>, tag: u8, value: &[u8]) -> Result<(), AllocError> {
 impl Content {
     pub fn any(heap: Global, luck: &mut Luck, plan: Plan) -> Result<Content, AllocError> {
         let mut pages = Vec::new(heap);
-        for state in 0..=u8::MAX {
-            if u16::from(state) < plan.states {
-                pages.push(Page::any(heap, luck, plan, state)?)?;
-            }
+        for state in (0..=u8::MAX).take(plan.states as usize) {
+            pages.push(Page::any(heap, luck, plan, state)?)?;
         }
         Ok(Content {
             players: plan.players,
@@ -147,9 +137,9 @@ impl Content {
     // Three states and six players who have four moves each, at state 0 with so many for the first of them.
     pub fn crowded(heap: Global, luck: &mut Luck, first: u8) -> Result<Content, AllocError> {
         let mut pages = Vec::new(heap);
-        pages.push(Page::crowded(heap, luck, [first, 4, 4, 4, 4, 4])?)?;
-        pages.push(Page::crowded(heap, luck, [4; 6])?)?;
-        pages.push(Page::crowded(heap, luck, [4; 6])?)?;
+        for first in [first, 4, 4] {
+            pages.push(Page::crowded(heap, luck, [first, 4, 4, 4, 4, 4])?)?;
+        }
         Ok(Content {
             players: 6,
             states: 3,
@@ -167,14 +157,12 @@ impl Content {
         for page in self.pages.iter() {
             let mut value = Vec::new(heap);
             value.extend_from_slice(&page.labels.to_be_bytes())?;
-            for count in page.counts.iter().take(self.players as usize) {
-                value.push(*count)?;
-            }
-            value.extend_from_slice(page.nexts.as_slice())?;
-            field(&mut bytes, 2, value.as_slice())?;
+            value.extend(page.counts.iter().take(self.players as usize))?;
+            value.extend_from_slice(&page.nexts)?;
+            field(&mut bytes, 2, &value)?;
         }
         for rule in self.rules.iter() {
-            field(&mut bytes, 3, &[rule.kind, rule.group, rule.r, rule.s])?;
+            field(&mut bytes, 3, &<[u8; 4]>::from(*rule))?;
         }
         Ok(bytes)
     }

@@ -1,20 +1,17 @@
 // The two sides of each state for a group: what it chooses, and where the replies lead.
-use crate::layout::{Counts, Layout, Step};
+use crate::layout::{Counts, Layout, Step, product};
 use std::alloc::{AllocError, Global};
+
+// Which places have a member.
+pub fn members(group: u8) -> [bool; 6] {
+    [1u8, 2, 4, 8, 16, 32].map(|bit| group & bit != 0)
+}
 
 // Fifteen in the place of each member, four bits a player.
 pub fn mask(group: u8) -> u32 {
-    let mut mask: u32 = 0;
-    let mut weight: u32 = 15;
-    let mut members = group;
-    for _ in 0..6 {
-        if members % 2 == 1 {
-            mask |= weight;
-        }
-        weight = weight.wrapping_mul(16);
-        members /= 2;
-    }
-    mask
+    members(group).iter().rev().fold(0u32, |mask, member| {
+        mask << 4 | if *member { 15 } else { 0 }
+    })
 }
 
 // Each member plays 1.
@@ -25,17 +22,15 @@ pub fn ones(group: u8) -> u32 {
 // The counts with 1 in place of each non-member's.
 fn own(group: u8, counts: Counts) -> Counts {
     let mut own = counts;
-    let mut members = group;
-    for i in 0..6usize {
-        if members % 2 == 0 {
-            own[i] = 1;
+    for (count, member) in own.iter_mut().zip(members(group)) {
+        if !member {
+            *count = 1;
         }
-        members /= 2;
     }
     own
 }
 
-// The place of a vector's moves among those that these counts allow; a count of 1 makes no difference.
+// The place of a vector's moves among those that these counts allow; a count of 1 makes no difference. A loop and no fold: three numbers go on from count to count.
 fn place_of(counts: Counts, vector: u32) -> u32 {
     let mut place: u32 = 0;
     let mut weight: u32 = 1;
@@ -59,7 +54,7 @@ pub struct Choice {
     pub replies: u32,
 }
 
-// Some reply to the choice leads here.
+// Some reply to the choice leads here. The graph has cycles, so its parts are named by number.
 #[derive(Clone, Copy)]
 pub struct Arc {
     pub state: u8,
@@ -67,17 +62,24 @@ pub struct Arc {
     pub choice: usize,
 }
 
+// A state of the graph.
+#[derive(Drop)]
+pub struct Node {
+    // How many choices come before its own.
+    before: usize,
+    // How many choices it has.
+    pub many: u32,
+    // What leads here, once for each reply.
+    pub into: Vec<Arc>,
+}
+
 #[derive(Drop)]
 pub struct Division {
     group: u8,
     // By state, and then ascending.
     pub choices: Vec<Choice>,
-    // How many choices come before those of a state.
-    before: Vec<usize>,
-    // How many choices a state has.
-    pub many: Vec<u32>,
-    // For each state what leads into it, once for each reply.
-    pub into: Vec<Vec<Arc>>,
+    // By state.
+    pub nodes: Vec<Node>,
 }
 
 impl Division {
@@ -85,42 +87,37 @@ impl Division {
         let mut division = Division {
             group,
             choices: Vec::new(heap),
-            before: Vec::new(heap),
-            many: Vec::new(heap),
-            into: Vec::new(heap),
+            nodes: Vec::new(heap),
         };
-        for (state, counts) in (0..=u8::MAX).zip(layout.counts.iter()) {
-            division.enter(heap, state, product_of(own(group, *counts)))?;
+        for (state, site) in (0..=u8::MAX).zip(layout.sites.iter()) {
+            division.enter(heap, state, product(6, own(group, site.counts)))?;
         }
         for step in layout.steps.iter() {
-            let counts = layout
-                .counts
-                .get(step.state as usize)
-                .copied()
-                .unwrap_or([1; 6]);
-            division.join(own(group, counts), *step)?;
+            division.join(own(group, layout.counts(step.state)), *step)?;
         }
         Ok(division)
     }
 
     // Makes room for so many choices of the state.
     fn enter(&mut self, heap: Global, state: u8, many: u32) -> Result<(), AllocError> {
-        self.before.push(self.choices.len())?;
-        self.many.push(many)?;
-        self.into.push(Vec::new(heap))?;
-        for _ in 0..many {
-            self.choices.push(Choice {
-                state,
-                number: 0,
-                replies: 0,
-            })?;
-        }
-        Ok(())
+        self.nodes.push(Node {
+            before: self.choices.len(),
+            many,
+            into: Vec::new(heap),
+        })?;
+        self.choices.extend((0..many).map(|_| Choice {
+            state,
+            number: 0,
+            replies: 0,
+        }))
     }
 
     // The place of the vector's choice among the choices of all states.
     fn place(&self, own: Counts, step: Step) -> usize {
-        let before = self.before.get(step.state as usize).copied().unwrap_or(0);
+        let before = match self.nodes.get(step.state as usize) {
+            Some(node) => node.before,
+            None => 0,
+        };
         before.saturating_add(place_of(own, step.vector) as usize)
     }
 
@@ -131,16 +128,19 @@ impl Division {
             choice.number = step.vector & mask(self.group);
             choice.replies = choice.replies.saturating_add(1);
         }
-        if let Some(into) = self.into.get_mut(step.next as usize) {
-            into.push(Arc {
+        if let Some(node) = self.nodes.get_mut(step.next as usize) {
+            node.into.push(Arc {
                 state: step.state,
                 choice: place,
             })?;
         }
         Ok(())
     }
-}
 
-fn product_of(counts: Counts) -> u32 {
-    crate::layout::product(6, counts)
+    // The number is one of the state's choices.
+    pub fn has_choice(&self, state: u8, number: u32) -> bool {
+        self.choices
+            .iter()
+            .any(|choice| choice.state == state && choice.number == number)
+    }
 }

@@ -1,152 +1,130 @@
-// Each refusal of a board in turn, with the number that is due.
+// Each refusal of a board in turn, with the one that is due.
 use crate::bench::Bench;
 use crate::layout::Layout;
-use crate::second::Second;
 use crate::tally::{Tally, add};
-use crate::walks::careful;
-use crate::words::{Call, Rule, Said};
-use board::Board;
+use crate::words::{Call, Said, Why};
 use drill::Drill;
 use std::alloc::AllocError;
 
-fn write(kind: u8, group: u8, r: u8, s: u8) -> Call {
-    Call::Write(Rule { kind, group, r, s })
-}
-
 // A call on the drill of limit 1, which has two players and four states, with a buffer of 18 bytes.
-fn expect(
-    tally: &mut Tally,
-    board: &mut Board<Drill>,
-    bench: &mut Bench<'_>,
-    call: Call,
-    due: u8,
-) -> Result<(), AllocError> {
-    let number = match careful(tally, board, bench, call, 18)? {
-        Said::Refused(number) => number,
-        _ => 0,
+fn expect(bench: &mut Bench<'_, Drill>, call: Call, due: Option<Why>) -> Result<(), AllocError> {
+    let refused = match bench.careful(call, 18)? {
+        Said::Refused(number) => Some(number),
+        _ => None,
     };
-    if number != due {
-        let line = format!(in tally.heap; "differ: refusals: {call}: refused {number}, due {due}")?;
-        tally.differs(line)?;
-    }
-    Ok(())
-}
-
-fn expect_writes(
-    tally: &mut Tally,
-    board: &mut Board<Drill>,
-    bench: &mut Bench<'_>,
-) -> Result<(), AllocError> {
-    let calls = [
-        (Call::Erase, 5),
-        (write(9, 9, 99, 9), 2),
-        (write(255, 0, 0, 0), 2),
-        (write(3, 4, 99, 9), 3),
-        (write(2, 1, 99, 9), 3),
-        (write(0, 0, 16, 0), 4),
-        (write(0, 0, 15, 1), 4),
-        (write(1, 0, 0, 0), 4),
-        (write(0, 0, 8, 0), 0),
-        (write(3, 1, 0, 1), 4),
-        (write(4, 3, 0, 1), 4),
-        (write(8, 3, 1, 0), 4),
-        (write(1, 0, 0, 0), 0),
-        (write(2, 0, 0, 1), 0),
-        (write(4, 3, 2, 0), 0),
-    ];
-    for (call, due) in calls {
-        expect(tally, board, bench, call, due)?;
-    }
-    Ok(())
-}
-
-fn expect_rounds(
-    tally: &mut Tally,
-    board: &mut Board<Drill>,
-    bench: &mut Bench<'_>,
-) -> Result<(), AllocError> {
-    let calls = [
-        (Call::Round(4), 5),
-        (Call::Round(3), 7),
-        (Call::Round(1), 7),
-        (Call::Round(0), 0),
-        (Call::Round(0), 8),
-        (Call::Round(1), 0),
-        (Call::Round(3), 7),
-        (Call::Round(2), 0),
-        (Call::Play(3, 0), 9),
-        (Call::Copy(3, 0), 9),
-        (Call::Round(3), 0),
-        (Call::Play(3, 0), 9),
-        (Call::Round(3), 0),
-        (Call::Round(3), 0),
-        (Call::Round(3), 8),
-    ];
-    for (call, due) in calls {
-        expect(tally, board, bench, call, due)?;
-    }
-    Ok(())
-}
-
-fn expect_questions(
-    tally: &mut Tally,
-    board: &mut Board<Drill>,
-    bench: &mut Bench<'_>,
-) -> Result<(), AllocError> {
-    let calls = [
-        (Call::Ask(4, 9), 5),
-        (Call::Ask(3, 4), 6),
-        (Call::Ask(3, 3), 0),
-        (Call::Tell(4), 5),
-        (Call::Tell(255), 5),
-        (Call::Play(4, 9), 5),
-        (Call::Play(0, 4), 6),
-        (Call::Play(0, 0), 10),
-        (Call::Play(3, 3), 0),
-        (Call::Copy(4, 99), 5),
-        (Call::Copy(0, 99), 10),
-        (Call::Copy(3, 2), 0),
-        (Call::Copy(3, 3), 11),
-        (Call::Copy(3, 19), 11),
-        (Call::Copy(3, usize::MAX), 11),
-    ];
-    for (call, due) in calls {
-        expect(tally, board, bench, call, due)?;
-    }
-    Ok(())
-}
-
-fn expect_full(
-    tally: &mut Tally,
-    board: &mut Board<Drill>,
-    bench: &mut Bench<'_>,
-) -> Result<(), AllocError> {
-    for _ in 4..32 {
-        expect(tally, board, bench, write(0, 0, 0, 0), 0)?;
-    }
-    let calls = [
-        (write(0, 0, 0, 0), 1),
-        (write(9, 9, 99, 9), 1),
-        (Call::Erase, 0),
-        (write(9, 9, 99, 9), 2),
-        (write(6, 3, 30, 0), 0),
-        (write(6, 3, 30, 0), 1),
-    ];
-    for (call, due) in calls {
-        expect(tally, board, bench, call, due)?;
+    let due = due.map(u8::from);
+    if refused != due {
+        let number = refused.unwrap_or(0);
+        let due = due.unwrap_or(0);
+        let line = format!(in bench.tally.heap;
+            "differ: refusals: {call}: refused {number}, due {due}"
+        )?;
+        bench.tally.differs(line)?;
     }
     Ok(())
 }
 
 fn expect_all(
-    tally: &mut Tally,
-    board: &mut Board<Drill>,
-    bench: &mut Bench<'_>,
+    bench: &mut Bench<'_, Drill>,
+    calls: &[(Call, Option<Why>)],
 ) -> Result<(), AllocError> {
-    expect_writes(tally, board, bench)?;
-    expect_rounds(tally, board, bench)?;
-    expect_questions(tally, board, bench)?;
-    expect_full(tally, board, bench)
+    for (call, due) in calls {
+        expect(bench, *call, *due)?;
+    }
+    Ok(())
+}
+
+fn expect_writes(bench: &mut Bench<'_, Drill>) -> Result<(), AllocError> {
+    expect_all(
+        bench,
+        &[
+            (Call::Erase, Some(Why::NoRule)),
+            (Call::Write([9, 9, 99, 9]), Some(Why::NoKind)),
+            (Call::Write([255, 0, 0, 0]), Some(Why::NoKind)),
+            (Call::Write([3, 4, 99, 9]), Some(Why::NoGroup)),
+            (Call::Write([2, 1, 99, 9]), Some(Why::NoGroup)),
+            (Call::Write([0, 0, 16, 0]), Some(Why::NoPart)),
+            (Call::Write([0, 0, 15, 1]), Some(Why::NoPart)),
+            (Call::Write([1, 0, 0, 0]), Some(Why::NoPart)),
+            (Call::Write([0, 0, 8, 0]), None),
+            (Call::Write([3, 1, 0, 1]), Some(Why::NoPart)),
+            (Call::Write([4, 3, 0, 1]), Some(Why::NoPart)),
+            (Call::Write([8, 3, 1, 0]), Some(Why::NoPart)),
+            (Call::Write([1, 0, 0, 0]), None),
+            (Call::Write([2, 0, 0, 1]), None),
+            (Call::Write([4, 3, 2, 0]), None),
+        ],
+    )
+}
+
+fn expect_rounds(bench: &mut Bench<'_, Drill>) -> Result<(), AllocError> {
+    expect_all(
+        bench,
+        &[
+            (Call::Round(4), Some(Why::NoRule)),
+            (Call::Round(3), Some(Why::PartUnsettled)),
+            (Call::Round(1), Some(Why::PartUnsettled)),
+            (Call::Round(0), None),
+            (Call::Round(0), Some(Why::Settled)),
+            (Call::Round(1), None),
+            (Call::Round(3), Some(Why::PartUnsettled)),
+            (Call::Round(2), None),
+            (Call::Play(3, 0), Some(Why::Unsettled)),
+            (Call::Copy(3, 0), Some(Why::Unsettled)),
+            (Call::Round(3), None),
+            (Call::Play(3, 0), Some(Why::Unsettled)),
+            (Call::Round(3), None),
+            (Call::Round(3), None),
+            (Call::Round(3), Some(Why::Settled)),
+        ],
+    )
+}
+
+fn expect_questions(bench: &mut Bench<'_, Drill>) -> Result<(), AllocError> {
+    expect_all(
+        bench,
+        &[
+            (Call::Ask(4, 9), Some(Why::NoRule)),
+            (Call::Ask(3, 4), Some(Why::NoState)),
+            (Call::Ask(3, 3), None),
+            (Call::Tell(4), Some(Why::NoRule)),
+            (Call::Tell(255), Some(Why::NoRule)),
+            (Call::Play(4, 9), Some(Why::NoRule)),
+            (Call::Play(0, 4), Some(Why::NoState)),
+            (Call::Play(0, 0), Some(Why::NoPlaybook)),
+            (Call::Play(3, 3), None),
+            (Call::Copy(4, 99), Some(Why::NoRule)),
+            (Call::Copy(0, 99), Some(Why::NoPlaybook)),
+            (Call::Copy(3, 2), None),
+            (Call::Copy(3, 3), Some(Why::NoRoom)),
+            (Call::Copy(3, 19), Some(Why::NoRoom)),
+            (Call::Copy(3, usize::MAX), Some(Why::NoRoom)),
+        ],
+    )
+}
+
+fn expect_full(bench: &mut Bench<'_, Drill>) -> Result<(), AllocError> {
+    for _ in 4..32 {
+        expect(bench, Call::Write([0, 0, 0, 0]), None)?;
+    }
+    expect_all(
+        bench,
+        &[
+            (Call::Write([0, 0, 0, 0]), Some(Why::Full)),
+            (Call::Write([9, 9, 99, 9]), Some(Why::Full)),
+            (Call::Erase, None),
+            (Call::Write([9, 9, 99, 9]), Some(Why::NoKind)),
+            (Call::Write([6, 3, 30, 0]), None),
+            (Call::Write([6, 3, 30, 0]), Some(Why::Full)),
+        ],
+    )
+}
+
+fn expect_refusals(bench: &mut Bench<'_, Drill>) -> Result<(), AllocError> {
+    expect_writes(bench)?;
+    expect_rounds(bench)?;
+    expect_questions(bench)?;
+    expect_full(bench)
 }
 
 // The refusals of a board of the drill of limit 1.
@@ -154,14 +132,9 @@ pub fn refusals(tally: &mut Tally) -> Result<(), AllocError> {
     let Ok(drill) = Drill::new(1) else {
         return tally.demand(false, "drill 1", "there is none");
     };
-    let layout = Layout::of(tally.heap, &drill)?;
-    let mut bench = Bench {
-        name: "drill 1",
-        second: Second::new(tally.heap, layout),
-    };
-    let mut board = Board::new(drill);
-    let done = expect_all(tally, &mut board, &mut bench);
-    let _game = board.close();
+    let mut bench = Bench::open(tally, "drill 1", drill)?;
+    let done = expect_refusals(&mut bench);
+    bench.close();
     done
 }
 
@@ -190,40 +163,42 @@ fn drill_labels(limit: u16, state: u16) -> u16 {
 
 // The drill of the limit is as it was laid out.
 fn is_drill(limit: u16, layout: &Layout) -> bool {
-    let mut same = layout.players == 2
+    layout.players == 2
         && layout.states == limit.saturating_add(3)
         && layout.steps.len() == 4 * limit as usize + 6
-        && layout.astray == 0;
-    for (state, labels) in (0..u16::MAX).zip(layout.labels.iter()) {
-        same = same && *labels == drill_labels(limit, state);
-    }
-    for step in layout.steps.iter() {
-        let next = drill_leads(limit, u16::from(step.state), step.vector);
-        same = same && u16::from(step.next) == next;
-    }
-    same
+        && layout.astray == 0
+        && (0..u16::MAX)
+            .zip(layout.sites.iter())
+            .all(|(state, site)| site.labels == drill_labels(limit, state))
+        && layout.steps.iter().all(|step| {
+            u16::from(step.next) == drill_leads(limit, u16::from(step.state), step.vector)
+        })
+}
+
+// The drill of the limit answers as it should.
+fn compare_drill(tally: &mut Tally, limit: u8, drill: &Drill) -> Result<(), AllocError> {
+    let layout = Layout::of(tally.heap, drill)?;
+    let name = format!(in tally.heap; "drill {limit}")?;
+    tally.demand(is_drill(u16::from(limit), &layout), &name, "its answers")?;
+    add(&mut tally.compared.answers, layout.steps.len());
+    Ok(())
 }
 
 // The limits that a drill may have.
 pub fn limits(tally: &mut Tally) -> Result<(), AllocError> {
     for limit in 0..=u8::MAX {
-        let due = if limit == 0 || limit > 253 { 13 } else { 0 };
+        let due = (limit == 0 || limit > 253).then_some(u8::from(Why::NoLimit));
         let refused = match Drill::new(limit) {
             Ok(drill) => {
-                let layout = Layout::of(tally.heap, &drill)?;
-                let name = format!(in tally.heap; "drill {limit}")?;
-                tally.demand(
-                    is_drill(u16::from(limit), &layout),
-                    name.as_str(),
-                    "its answers",
-                )?;
-                add(&mut tally.compared.answers, layout.steps.len());
-                0
+                compare_drill(tally, limit, &drill)?;
+                None
             }
-            Err(refusal) => refusal.number(),
+            Err(refusal) => Some(refusal.number()),
         };
         tally.demand(refused == due, "drill", "a limit is taken or refused")?;
-        tally.given(refused);
+        if let Some(number) = refused {
+            tally.given(number);
+        }
         add(&mut tally.compared.calls, 1);
     }
     Ok(())

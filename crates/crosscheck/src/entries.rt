@@ -1,81 +1,82 @@
 // The entries of a binding: which are taken, and where they lead.
-use crate::division::{Division, mask, ones};
+use crate::division::{Division, mask, members, ones};
 use crate::layout::{Counts, Layout, Step};
+use crate::places::{at, put};
 use crate::rules::everybody;
 use crate::tally::{Tally, add};
+use crate::words::Why;
 use binding::Binding;
 use game::Game;
-use std::alloc::AllocError;
+use std::alloc::{AllocError, Global};
 
 // Bits of players that no game here has.
 const MISSING: u8 = 0xc0;
 
-fn refused_set<G: Game>(binding: &mut Binding<G>, state: u8, choice: u32) -> u8 {
-    match binding.set(state, choice) {
-        Ok(()) => 0,
-        Err(refusal) => refusal.number(),
-    }
-}
-
-// Why the number is no entry for the state: 6 no such state, 12 no choice; 0 where it is one.
-fn unfit(layout: &Layout, division: &Division, state: u8, number: u32) -> u8 {
-    if u16::from(state) >= layout.states {
-        return 6;
-    }
-    for choice in division.choices.iter() {
-        if choice.state == state && choice.number == number {
-            return 0;
-        }
-    }
-    12
-}
-
-// Where the vector leads from the state.
-fn led(layout: &Layout, state: u8, vector: u32) -> Option<u8> {
-    for step in layout.steps.iter() {
-        if step.state == state && step.vector == vector {
-            return Some(step.next);
-        }
-    }
-    None
-}
-
 // The members have one move each, the others theirs.
 fn are_held(group: u8, below: Counts, held: Counts) -> bool {
-    let mut same = true;
-    let mut members = group;
-    for (a, b) in below.iter().zip(held.iter()) {
-        let own = members % 2 == 1;
-        same = same && *b == (if own { 1 } else { *a });
-        members /= 2;
-    }
-    same
+    let mut counts = below.iter().zip(held.iter()).zip(members(group));
+    counts.all(|((free, held), member)| *held == if member { 1 } else { *free })
 }
 
-// The step of the binding leads where its entry and the reply lead below.
-fn is_step(below: &Layout, group: u8, entries: &[u32], step: Step) -> bool {
-    let entry = entries.get(step.state as usize).copied().unwrap_or(0);
-    let reply = step.vector ^ (step.vector & mask(group));
-    step.vector & mask(group) == ones(group)
-        && led(below, step.state, reply | entry) == Some(step.next)
+// A game, and what is expected of a binding of a group over it.
+#[derive(Drop)]
+struct Expected {
+    group: u8,
+    layout: Layout,
+    division: Division,
+    // The entry of each state.
+    entries: Vec<u32>,
 }
 
-// The binding is the game below with the group held to the entries.
-fn is_bound(below: &Layout, group: u8, entries: &[u32], above: &Layout) -> bool {
-    let mut same = above.players == below.players
-        && above.states == below.states
-        && above.counts.len() == below.counts.len()
-        && above.astray == 0;
-    for (a, b) in below.labels.iter().zip(above.labels.iter()) {
-        same = same && *a == *b;
+impl Expected {
+    fn of<G: Game>(heap: Global, game: &G, group: u8) -> Result<Expected, AllocError> {
+        let layout = Layout::of(heap, game)?;
+        Ok(Expected {
+            group,
+            division: Division::of(heap, &layout, group)?,
+            entries: vec![in heap; ones(group); layout.states as usize]?,
+            layout,
+        })
     }
-    for (a, b) in below.counts.iter().zip(above.counts.iter()) {
-        same = same && are_held(group, *a, *b);
+
+    // Why the number is no entry for the state, if it is none.
+    fn unfit(&self, state: u8, number: u32) -> Option<Why> {
+        if u16::from(state) >= self.layout.states {
+            Some(Why::NoState)
+        } else if !self.division.has_choice(state, number) {
+            Some(Why::NoChoice)
+        } else {
+            None
+        }
     }
-    for step in above.steps.iter() {
-        same = same && is_step(below, group, entries, *step);
+
+    // The step of the binding leads where its entry and the reply lead below.
+    fn is_step(&self, step: Step) -> bool {
+        let entry = at(&self.entries, step.state as usize, 0);
+        let choice = step.vector & mask(self.group);
+        let reply = step.vector ^ choice;
+        choice == ones(self.group) && self.layout.next(step.state, reply | entry) == Some(step.next)
     }
-    same
+
+    // The binding is the game below with the group held to the entries.
+    fn is_bound(&self, above: &Layout) -> bool {
+        let below = &self.layout;
+        above.players == below.players
+            && above.states == below.states
+            && above.sites.len() == below.sites.len()
+            && above.astray == 0
+            && below.sites.iter().zip(above.sites.iter()).all(|(free, held)| {
+                free.labels == held.labels && are_held(self.group, free.counts, held.counts)
+            })
+            && above.steps.iter().all(|step| self.is_step(*step))
+    }
+}
+
+fn refused_set<G: Game>(binding: &mut Binding<G>, state: u8, choice: u32) -> Option<u8> {
+    match binding.set(state, choice) {
+        Ok(()) => None,
+        Err(refusal) => Some(refusal.number()),
+    }
 }
 
 // Tries each number as the entry of the state. The entry is then the last that was taken.
@@ -83,58 +84,51 @@ fn try_entries<G: Game>(
     tally: &mut Tally,
     name: &str,
     binding: &mut Binding<G>,
-    layout: &Layout,
-    division: &Division,
+    expected: &mut Expected,
     state: u8,
-) -> Result<u32, AllocError> {
-    let mut entry: u32 = 0;
+) -> Result<(), AllocError> {
     for number in 0..0x500u32 {
-        let expected = unfit(layout, division, state, number);
+        let due = expected.unfit(state, number).map(u8::from);
         let refused = refused_set(binding, state, number);
-        tally.demand(refused == expected, name, "an entry is taken or refused")?;
-        tally.given(refused);
-        if refused == 0 {
-            entry = number;
-        } else {
-            add(&mut tally.compared.refused, 1);
+        tally.demand(refused == due, name, "an entry is taken or refused")?;
+        match refused {
+            None => put(&mut expected.entries, state as usize, number),
+            Some(refusal) => {
+                tally.given(refusal);
+                add(&mut tally.compared.refused, 1);
+            }
         }
         add(&mut tally.compared.calls, 1);
     }
-    Ok(entry)
+    Ok(())
 }
 
-// A binding of the group, whose entries are tried at each state.
+// The binding is as it should be.
+fn check<G: Game>(
+    tally: &mut Tally,
+    name: &str,
+    binding: &Binding<G>,
+    expected: &Expected,
+    what: &str,
+) -> Result<(), AllocError> {
+    let above = Layout::of(tally.heap, binding)?;
+    tally.demand(expected.is_bound(&above), name, what)
+}
+
+// A binding of the group, whose entries are tried at each state, and at one that there is not.
 fn enter_group<G: Game + Drop>(
     tally: &mut Tally,
     name: &str,
     game: G,
     group: u8,
 ) -> Result<G, AllocError> {
-    let heap = tally.heap;
-    let layout = Layout::of(heap, &game)?;
-    let division = Division::of(heap, &layout, group)?;
+    let mut expected = Expected::of(tally.heap, &game, group)?;
     let mut binding = Binding::new(game, group | MISSING);
-    let mut entries = vec![in heap; ones(group); layout.states as usize]?;
-    let first = Layout::of(heap, &binding)?;
-    tally.demand(
-        is_bound(&layout, group, entries.as_slice(), &first),
-        name,
-        "a new binding",
-    )?;
-    for state in 0..=u8::MAX {
-        if u16::from(state) <= layout.states {
-            let entry = try_entries(tally, name, &mut binding, &layout, &division, state)?;
-            if let Some(place) = entries.get_mut(state as usize) {
-                *place = entry;
-            }
-        }
+    check(tally, name, &binding, &expected, "a new binding")?;
+    for state in (0..=u8::MAX).take(expected.layout.states as usize + 1) {
+        try_entries(tally, name, &mut binding, &mut expected, state)?;
     }
-    let last = Layout::of(heap, &binding)?;
-    tally.demand(
-        is_bound(&layout, group, entries.as_slice(), &last),
-        name,
-        "a binding",
-    )?;
+    check(tally, name, &binding, &expected, "a binding")?;
     add(&mut tally.compared.games, 1);
     Ok(binding.close())
 }
@@ -143,12 +137,9 @@ fn enter_group<G: Game + Drop>(
 pub fn enter_all<G: Game + Drop>(tally: &mut Tally, name: &str, game: G) -> Result<(), AllocError> {
     let all = everybody(game.players());
     let mut game = game;
-    for group in 0..16u8 {
-        if group <= all {
-            game = enter_group(tally, name, game, group)?;
-        }
+    for group in (0..=all).take(16) {
+        game = enter_group(tally, name, game, group)?;
     }
-    let binding = Binding::new(game, 1);
-    let _game = enter_group(tally, name, binding, all.min(3))?;
+    enter_group(tally, name, Binding::new(game, 1), all.min(3))?;
     Ok(())
 }

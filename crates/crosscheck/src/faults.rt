@@ -1,18 +1,61 @@
 // The first fault of a book, by a straight walk over its bytes, compared with the reader's.
+use crate::places::{self, put};
 use crate::tally::{Tally, add};
 use book::{Fault, Layer, UnreadBook};
 use std::alloc::AllocError;
 
-// The number of the cause and the byte.
-#[derive(Clone, Copy)]
-struct Bad {
-    cause: u8,
-    byte: usize,
+// What the walk finds wrong, by the number under which it is told.
+#[derive(Clone, Copy, PartialEq, Eq)]
+pub enum Flaw {
+    BookLength = 14,
+    NoField = 15,
+    CutField = 16,
+    Tag = 17,
+    Length = 18,
+    Value = 19,
 }
 
-// What the walk knows from the heading.
+impl From<Flaw> for u8 {
+    fn from(flaw: Flaw) -> u8 {
+        flaw as u8
+    }
+}
+
+impl Flaw {
+    // The layer that finds it.
+    fn layer(self) -> Layer {
+        match self {
+            Flaw::BookLength | Flaw::NoField => Layer::Book,
+            Flaw::CutField => Layer::Field,
+            Flaw::Tag | Flaw::Length | Flaw::Value => Layer::Record,
+        }
+    }
+}
+
+#[derive(Clone, Copy, PartialEq, Eq)]
+pub struct Bad {
+    pub flaw: Flaw,
+    pub byte: usize,
+}
+
+// 0 where there is none.
+fn byte(bytes: &[u8], at: usize) -> u8 {
+    places::at(bytes, at, 0)
+}
+
+// The flaw stands at the byte if the test holds.
+fn bad_if(test: bool, flaw: Flaw, byte: usize) -> Result<(), Bad> {
+    if test {
+        Err(Bad { flaw, byte })
+    } else {
+        Ok(())
+    }
+}
+
+// The bytes of a book, and what the walk knows from the heading.
 #[derive(Clone, Copy)]
-struct Known {
+struct Walk<'a> {
+    bytes: &'a [u8],
     players: usize,
     states: usize,
 }
@@ -24,188 +67,141 @@ struct Place {
     size: usize,
 }
 
-fn byte(bytes: &[u8], at: usize) -> usize {
-    usize::from(bytes.get(at).copied().unwrap_or(0))
-}
-
-// The length that stands behind the tag, highest byte first.
-fn size_at(bytes: &[u8], tag: usize) -> usize {
-    let high = byte(bytes, tag.saturating_add(1));
-    let low = byte(bytes, tag.saturating_add(2));
-    high.saturating_mul(256).saturating_add(low)
-}
-
-fn found(cause: u8, byte: usize) -> Option<Bad> {
-    Some(Bad { cause, byte })
-}
-
 impl Place {
     // The byte so far behind the tag; the value begins 3 behind it.
     fn at(self, k: usize) -> usize {
         self.tag.saturating_add(k)
     }
 
-    fn heading(self, bytes: &[u8]) -> Option<Bad> {
-        let players = byte(bytes, self.at(3));
-        if byte(bytes, self.tag) != 1 {
-            found(17, self.tag)
-        } else if self.size != 3 {
-            found(18, self.tag)
-        } else if players == 0 || players > 6 {
-            found(19, self.at(3))
-        } else if byte(bytes, self.at(5)) > byte(bytes, self.at(4)) {
-            found(19, self.at(5))
-        } else {
-            None
+    // The byte behind the field.
+    fn end(self) -> usize {
+        self.at(3).saturating_add(self.size)
+    }
+}
+
+impl<'a> Walk<'a> {
+    fn of(bytes: &'a [u8]) -> Walk<'a> {
+        Walk {
+            bytes,
+            players: usize::from(byte(bytes, 3)),
+            states: usize::from(byte(bytes, 4)) + 1,
         }
     }
 
-    // The first count that is not from 1 to 15.
-    fn count(self, bytes: &[u8], known: Known) -> Option<Bad> {
-        for k in 0..known.players {
-            let at = self.at(k.saturating_add(5));
-            let count = byte(bytes, at);
-            if count == 0 || count > 15 {
-                return found(19, at);
+    fn byte(self, at: usize) -> usize {
+        usize::from(byte(self.bytes, at))
+    }
+
+    // The field whose tag is here. Its length stands behind the tag, highest byte first.
+    fn field(self, tag: usize) -> Place {
+        let high = byte(self.bytes, tag.saturating_add(1));
+        let low = byte(self.bytes, tag.saturating_add(2));
+        Place {
+            tag,
+            size: usize::from(u16::from_be_bytes([high, low])),
+        }
+    }
+
+    fn heading(self, place: Place) -> Result<(), Bad> {
+        let players = self.byte(place.at(3));
+        bad_if(self.byte(place.tag) != 1, Flaw::Tag, place.tag)?;
+        bad_if(place.size != 3, Flaw::Length, place.tag)?;
+        bad_if(players == 0 || players > 6, Flaw::Value, place.at(3))?;
+        let last = self.byte(place.at(4));
+        bad_if(self.byte(place.at(5)) > last, Flaw::Value, place.at(5))
+    }
+
+    // Each count is from 1 to 15.
+    fn counts(self, place: Place) -> Result<(), Bad> {
+        for at in (place.at(5)..).take(self.players) {
+            let count = self.byte(at);
+            bad_if(count == 0 || count > 15, Flaw::Value, at)?;
+        }
+        Ok(())
+    }
+
+    fn product(self, place: Place) -> usize {
+        (place.at(5)..).take(self.players).fold(
+            1usize,
+            |product, at| product.saturating_mul(self.byte(at)),
+        )
+    }
+
+    // Each next state is there.
+    fn nexts(self, place: Place) -> Result<(), Bad> {
+        for at in place.at(5).saturating_add(self.players)..place.end() {
+            bad_if(self.byte(at) >= self.states, Flaw::Value, at)?;
+        }
+        Ok(())
+    }
+
+    fn state(self, place: Place) -> Result<(), Bad> {
+        let least = self.players.saturating_add(2);
+        bad_if(self.byte(place.tag) != 2, Flaw::Tag, place.tag)?;
+        bad_if(place.size < least, Flaw::Length, place.tag)?;
+        self.counts(place)?;
+        let product = self.product(place);
+        bad_if(product > 4096, Flaw::Value, place.at(5))?;
+        let size = least.saturating_add(product);
+        bad_if(place.size != size, Flaw::Length, place.tag)?;
+        self.nexts(place)
+    }
+
+    fn rule(self, place: Place) -> Result<(), Bad> {
+        bad_if(self.byte(place.tag) != 3, Flaw::Tag, place.tag)?;
+        bad_if(place.size != 4, Flaw::Length, place.tag)
+    }
+
+    // The field, which is the k-th of the book.
+    fn record(self, place: Place, k: usize) -> Result<(), Bad> {
+        bad_if(place.end() > self.bytes.len(), Flaw::CutField, place.tag)?;
+        if k == 0 {
+            self.heading(place)
+        } else if k <= self.states {
+            self.state(place)
+        } else {
+            self.rule(place)
+        }
+    }
+
+    // The whole book.
+    fn book(self) -> Result<(), Bad> {
+        let len = self.bytes.len();
+        bad_if(len > 65535, Flaw::BookLength, 0)?;
+        let mut tag: usize = 0;
+        for k in 0..65536usize {
+            if tag >= len {
+                return bad_if(k <= self.states, Flaw::NoField, len);
             }
+            let place = self.field(tag);
+            self.record(place, k)?;
+            tag = place.end();
         }
-        None
-    }
-
-    fn product(self, bytes: &[u8], known: Known) -> usize {
-        let mut product: usize = 1;
-        for k in 0..known.players {
-            product = product.saturating_mul(byte(bytes, self.at(k.saturating_add(5))));
-        }
-        product
-    }
-
-    // The first next state that there is not.
-    fn next(self, bytes: &[u8], known: Known) -> Option<Bad> {
-        for k in known.players.saturating_add(2)..self.size {
-            let at = self.at(k.saturating_add(3));
-            if byte(bytes, at) >= known.states {
-                return found(19, at);
-            }
-        }
-        None
-    }
-
-    fn state(self, bytes: &[u8], known: Known) -> Option<Bad> {
-        let least = known.players.saturating_add(2);
-        if byte(bytes, self.tag) != 2 {
-            return found(17, self.tag);
-        }
-        if self.size < least {
-            return found(18, self.tag);
-        }
-        if let Some(bad) = self.count(bytes, known) {
-            return Some(bad);
-        }
-        let product = self.product(bytes, known);
-        if product > 4096 {
-            found(19, self.at(5))
-        } else if self.size != least.saturating_add(product) {
-            found(18, self.tag)
-        } else {
-            self.next(bytes, known)
-        }
-    }
-
-    fn rule(self, bytes: &[u8]) -> Option<Bad> {
-        if byte(bytes, self.tag) != 3 {
-            found(17, self.tag)
-        } else if self.size != 4 {
-            found(18, self.tag)
-        } else {
-            None
-        }
+        Ok(())
     }
 }
 
-// The fault of the field, which is the k-th of the book.
-fn field_fault(bytes: &[u8], place: Place, k: usize, known: Known) -> Option<Bad> {
-    if place.at(3).saturating_add(place.size) > bytes.len() || place.at(3) > bytes.len() {
-        found(16, place.tag)
-    } else if k == 0 {
-        place.heading(bytes)
-    } else if k <= known.states {
-        place.state(bytes, known)
-    } else {
-        place.rule(bytes)
-    }
-}
-
-// The first fault of the book.
-fn first_fault(bytes: &[u8]) -> Option<Bad> {
-    if bytes.len() > 65535 {
-        return found(14, 0);
-    }
-    let known = Known {
-        players: byte(bytes, 3),
-        states: byte(bytes, 4).saturating_add(1),
-    };
-    let mut tag: usize = 0;
-    for k in 0..65536usize {
-        if tag >= bytes.len() {
-            return if k <= known.states {
-                found(15, bytes.len())
-            } else {
-                None
-            };
-        }
-        let size = size_at(bytes, tag);
-        let place = Place { tag, size };
-        if let Some(bad) = field_fault(bytes, place, k, known) {
-            return Some(bad);
-        }
-        tag = place.at(3).saturating_add(size);
-    }
-    None
-}
-
-// The layer that finds a cause.
-fn is_layer(cause: u8, layer: Layer) -> bool {
-    match layer {
-        Layer::Book => cause == 14 || cause == 15,
-        Layer::Field => cause == 16,
-        Layer::Record => 17 <= cause && cause <= 19,
-    }
-}
-
-fn same(reader: Option<Fault>, walk: Option<Bad>) -> bool {
+fn same(reader: Result<(), Fault>, walk: Result<(), Bad>) -> bool {
     match (reader, walk) {
-        (Some(fault), Some(bad)) => {
-            fault.cause.number() == bad.cause
+        (Err(fault), Err(bad)) => {
+            fault.cause.number() == u8::from(bad.flaw)
                 && fault.byte == bad.byte
-                && is_layer(bad.cause, fault.layer)
+                && fault.layer == bad.flaw.layer()
         }
-        (None, None) => true,
+        (Ok(()), Ok(())) => true,
         _ => false,
     }
 }
 
-fn read_fault(bytes: &[u8]) -> Option<Fault> {
-    let unread = UnreadBook { bytes };
-    match unread.read() {
-        Ok(_) => None,
-        Err(fault) => Some(fault),
-    }
-}
-
-// The same, where the cause and the byte are known; cause 0 stands for a book that is taken.
+// The same, where it is known what the walk finds.
 pub fn expect_fault(
     tally: &mut Tally,
     name: &str,
     bytes: &[u8],
-    due: (u8, usize),
+    due: Result<(), Bad>,
 ) -> Result<(), AllocError> {
-    let found = match first_fault(bytes) {
-        Some(bad) => (bad.cause, bad.byte),
-        None => (0, 0),
-    };
     tally.demand(
-        found == due,
+        Walk::of(bytes).book() == due,
         name,
         "the walk finds another fault than is due",
     )?;
@@ -214,11 +210,11 @@ pub fn expect_fault(
 
 // Compares the reader with the walk on these bytes.
 fn compare_faults(tally: &mut Tally, name: &str, bytes: &[u8]) -> Result<(), AllocError> {
-    let reader = read_fault(bytes);
-    let walk = first_fault(bytes);
+    let reader = UnreadBook { bytes }.read().map(|_| ());
+    let walk = Walk::of(bytes).book();
     add(&mut tally.compared.books, 1);
-    if let Some(bad) = walk {
-        tally.given(bad.cause);
+    if let Err(bad) = walk {
+        tally.given(u8::from(bad.flaw));
         add(&mut tally.compared.faults, 1);
     }
     if same(reader, walk) {
@@ -226,16 +222,16 @@ fn compare_faults(tally: &mut Tally, name: &str, bytes: &[u8]) -> Result<(), All
     }
     let heap = tally.heap;
     let (cause, byte) = match reader {
-        Some(fault) => (fault.cause.number(), fault.byte),
-        None => (0, 0),
+        Err(fault) => (fault.cause.number(), fault.byte),
+        Ok(()) => (0, 0),
     };
-    let Bad {
-        cause: other,
-        byte: place,
-    } = walk.unwrap_or(Bad { cause: 0, byte: 0 });
+    let (flaw, place) = match walk {
+        Err(bad) => (u8::from(bad.flaw), bad.byte),
+        Ok(()) => (0, 0),
+    };
     let len = bytes.len();
     let line = format!(in heap;
-        "differ: {name} of {len} bytes: the reader finds {cause} at {byte}, the walk {other} at {place}"
+        "differ: {name} of {len} bytes: the reader finds {cause} at {byte}, the walk {flaw} at {place}"
     )?;
     tally.differs(line)
 }
@@ -243,9 +239,7 @@ fn compare_faults(tally: &mut Tally, name: &str, bytes: &[u8]) -> Result<(), All
 // The same on each of the book's beginnings.
 pub fn compare_beginnings(tally: &mut Tally, name: &str, bytes: &[u8]) -> Result<(), AllocError> {
     for len in 0..=bytes.len() {
-        if let Some(beginning) = bytes.get(0..len) {
-            compare_faults(tally, name, beginning)?;
-        }
+        compare_faults(tally, name, &bytes[..len])?;
     }
     Ok(())
 }
@@ -255,16 +249,10 @@ pub fn compare_changes(tally: &mut Tally, name: &str, bytes: &[u8]) -> Result<()
     let mut changed = bytes.to_vec(tally.heap)?;
     for (at, old) in bytes.iter().enumerate() {
         for new in [0u8, 1, 2, 3, 4, 5, 6, 7, 15, 16, 127, 128, 255] {
-            set(&mut changed, at, new);
-            compare_faults(tally, name, changed.as_slice())?;
+            put(&mut changed, at, new);
+            compare_faults(tally, name, &changed)?;
         }
-        set(&mut changed, at, *old);
+        put(&mut changed, at, *old);
     }
     Ok(())
-}
-
-fn set(bytes: &mut Vec<u8>, at: usize, new: u8) {
-    if let Some(byte) = bytes.get_mut(at) {
-        *byte = new;
-    }
 }

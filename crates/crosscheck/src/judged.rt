@@ -1,242 +1,206 @@
 // What the second judge says of a rule.
 use crate::division::{Division, ones};
-use crate::flood::{NONE, Pull, drawn, flag, numbers};
+use crate::flood::{AllReplies, EachChoice, Wanting, drawn, numbers};
 use crate::layout::Layout;
-use crate::words::Rule;
+use crate::places::put;
+use crate::words::{Goal, Kind, Rule};
 use std::alloc::{AllocError, Global};
 
-// A settled rule: its verdict and its number at each state, what each of its rounds marks, and its playbook if it has one.
+// A settled rule's verdict at a state, and the number of its mark.
+#[derive(Clone, Copy, PartialEq, Eq)]
+pub struct Mark {
+    pub yes: bool,
+    pub number: Option<u16>,
+}
+
+// A settled rule: its mark at each state, how many states each of its rounds marks, and its playbook if it has one.
 #[derive(Drop)]
 pub struct Judged {
-    pub yes: Vec<bool>,
-    pub numbers: Vec<u16>,
+    pub marks: Vec<Mark>,
     pub marked: Vec<u16>,
-    pub playbook: Vec<u32>,
+    pub playbook: Option<Vec<u32>>,
 }
 
-// The verdicts of the parts; of a label, where it stands and nowhere.
+// The marks of a rule's parts.
 #[derive(Clone, Copy)]
 pub struct Parts<'a> {
-    pub r: &'a [bool],
-    pub s: &'a [bool],
+    pub r: &'a [Mark],
+    pub s: &'a [Mark],
 }
 
-fn has_label(labels: u16, label: u8) -> bool {
-    let mut rest = labels;
-    for _ in 0..label {
-        rest /= 2;
-    }
-    rest % 2 == 1
+fn is_yes(marks: &[Mark], state: u8) -> bool {
+    marks.get(state as usize).is_some_and(|mark| mark.yes)
 }
 
-// Where the label stands.
-pub fn labelled(heap: Global, layout: &Layout, label: u8) -> Result<Vec<bool>, AllocError> {
-    let mut yes = Vec::new(heap);
-    for labels in layout.labels.iter() {
-        yes.push(has_label(*labels, label))?;
+// The steps that an until needs from the state; more than any where it is not yes.
+fn steps(marks: &[Mark], state: u8) -> u16 {
+    match marks.get(state as usize) {
+        Some(mark) => mark.number.unwrap_or(u16::MAX),
+        None => u16::MAX,
     }
-    Ok(yes)
 }
 
-// Where the first is `a` and the second is `b`.
-fn met(heap: Global, parts: Parts<'_>, a: bool, b: bool) -> Result<Vec<bool>, AllocError> {
-    let mut both = Vec::new(heap);
-    for (r, s) in parts.r.iter().zip(parts.s.iter()) {
-        both.push(*r == a && *s == b)?;
+impl Parts<'_> {
+    // The first part is yes at the state.
+    pub fn r(self, state: u8) -> bool {
+        is_yes(self.r, state)
     }
-    Ok(both)
+
+    // The second part is yes at the state.
+    pub fn s(self, state: u8) -> bool {
+        is_yes(self.s, state)
+    }
 }
 
-fn turned(heap: Global, flags: &[bool]) -> Result<Vec<bool>, AllocError> {
-    let mut turned = Vec::new(heap);
-    for flag in flags.iter() {
-        turned.push(!*flag)?;
-    }
-    Ok(turned)
-}
-
-// Where the number is below that of none, or is not.
-fn numbered(heap: Global, numbers: &[u16], some: bool) -> Result<Vec<bool>, AllocError> {
-    let mut yes = Vec::new(heap);
-    for number in numbers.iter() {
-        yes.push((*number < NONE) == some)?;
-    }
-    Ok(yes)
+// Whether the test holds, for each of the states.
+fn flags<F: FnMut(u8) -> bool>(heap: Global, states: u16, test: F) -> Result<Vec<bool>, AllocError>
+    requires { (state : F) (x : _) → F.pre state x }
+{
+    (0..=u8::MAX).take(states as usize).map(test).collect(heap)
 }
 
 // How many states each round marks, by the numbers: the last round marks none.
-fn marked(heap: Global, numbers: &[u16]) -> Result<Vec<u16>, AllocError> {
-    let mut rounds: u16 = 1;
-    for number in numbers.iter() {
-        if *number < NONE {
-            rounds = rounds.max(number.saturating_add(2));
-        }
-    }
-    let mut marked = Vec::new(heap);
-    for round in 0..rounds {
-        let mut count: u16 = 0;
-        for number in numbers.iter() {
-            if *number == round {
-                count = count.saturating_add(1);
-            }
-        }
-        marked.push(count)?;
-    }
-    Ok(marked)
+fn marked(heap: Global, numbers: &[Option<u16>]) -> Result<Vec<u16>, AllocError> {
+    let most = numbers.iter().filter_map(|number| *number).max();
+    let rounds = most.map_or(1, |most| most.saturating_add(2));
+    (0..rounds)
+        .map(|round| {
+            let states = numbers.iter().filter(|number| **number == Some(round));
+            u16::try_from(states.count()).unwrap_or(u16::MAX)
+        })
+        .collect(heap)
 }
 
 // A rule that one round settles.
-fn at_once(heap: Global, states: u16, yes: Vec<bool>) -> Result<Judged, AllocError> {
+fn at_once(heap: Global, yes: &[bool]) -> Result<Judged, AllocError> {
+    let marks = yes.iter().map(|yes| Mark {
+        yes: *yes,
+        number: Some(0),
+    });
+    let states = u16::try_from(yes.len()).unwrap_or(u16::MAX);
     Ok(Judged {
-        yes,
-        numbers: vec![in heap; 0; states as usize]?,
-        marked: vec![in heap; states; 1]?,
-        playbook: Vec::new(heap),
+        marks: marks.collect(heap)?,
+        marked: vec![in heap; states]?,
+        playbook: None,
     })
 }
 
-fn until(
-    heap: Global,
-    division: &Division,
-    parts: Parts<'_>,
-    pull: Pull,
-) -> Result<Judged, AllocError> {
-    let numbers = numbers(heap, division, parts.s, parts.r, pull)?;
+// A rule that rounds settle, which is yes at the states that have a number, or at those that have none.
+fn by_rounds(heap: Global, numbers: &[Option<u16>], some: bool) -> Result<Judged, AllocError> {
+    let marks = numbers.iter().map(|number| Mark {
+        yes: number.is_some() == some,
+        number: *number,
+    });
     Ok(Judged {
-        yes: numbered(heap, numbers.as_slice(), true)?,
-        marked: marked(heap, numbers.as_slice())?,
-        numbers,
-        playbook: Vec::new(heap),
+        marks: marks.collect(heap)?,
+        marked: marked(heap, numbers)?,
+        playbook: None,
     })
 }
 
-fn unless(
+// A strategic rule that is to be judged.
+#[derive(Drop)]
+struct Strategic<'a> {
     heap: Global,
-    division: &Division,
-    parts: Parts<'_>,
-    pull: Pull,
-) -> Result<Judged, AllocError> {
-    let lost = met(heap, parts, false, false)?;
-    let open = turned(heap, parts.s)?;
-    let numbers = numbers(heap, division, lost.as_slice(), open.as_slice(), pull)?;
-    Ok(Judged {
-        yes: numbered(heap, numbers.as_slice(), false)?,
-        marked: marked(heap, numbers.as_slice())?,
-        numbers,
-        playbook: Vec::new(heap),
-    })
+    states: u16,
+    group: u8,
+    division: Division,
+    goal: Goal,
+    parts: Parts<'a>,
 }
 
-// A rule of kinds 3 to 8. The group can if one choice leads there whatever is replied; it cannot help it if each choice has a reply that leads there.
-fn strategic(
-    heap: Global,
-    division: &Division,
-    kind: u8,
-    parts: Parts<'_>,
-) -> Result<Judged, AllocError> {
-    match kind {
-        3 => at_once(
+impl<'a> Strategic<'a> {
+    fn of(
+        heap: Global,
+        layout: &Layout,
+        group: u8,
+        goal: Goal,
+        parts: Parts<'a>,
+    ) -> Result<Strategic<'a>, AllocError> {
+        Ok(Strategic {
             heap,
-            states_of(parts),
-            drawn(heap, division, parts.r, Pull::AllReplies)?,
-        ),
-        4 => until(heap, division, parts, Pull::AllReplies),
-        5 => unless(heap, division, parts, Pull::EachChoice),
-        6 => at_once(
-            heap,
-            states_of(parts),
-            drawn(heap, division, parts.r, Pull::EachChoice)?,
-        ),
-        7 => until(heap, division, parts, Pull::EachChoice),
-        _ => unless(heap, division, parts, Pull::AllReplies),
+            states: layout.states,
+            group,
+            division: Division::of(heap, layout, group)?,
+            goal,
+            parts,
+        })
     }
-}
 
-fn states_of(parts: Parts<'_>) -> u16 {
-    u16::try_from(parts.r.len()).unwrap_or(NONE)
-}
-
-// The set that the playbook's choice at a state must lead into, or None where each member plays 1.
-#[derive(Clone, Copy)]
-enum Aim {
-    // The yes states of r.
-    First,
-    // The yes states of a number below this one.
-    Below(u16),
-    // The rule's own yes states.
-    Own,
-    Nothing,
-}
-
-fn aim_at(kind: u8, judged: &Judged, parts: Parts<'_>, state: u8) -> Aim {
-    if !flag(judged.yes.as_slice(), state) {
-        return Aim::Nothing;
+    fn next<W: Wanting>(&self) -> Result<Judged, AllocError> {
+        let parts = self.parts;
+        let seeds = flags(self.heap, self.states, |state| parts.r(state))?;
+        let drawn = drawn::<W>(self.heap, &self.division, &seeds)?;
+        at_once(self.heap, &drawn)
     }
-    let number = judged.numbers.get(state as usize).copied().unwrap_or(0);
-    match kind {
-        3 => Aim::First,
-        4 if number > 0 => Aim::Below(number),
-        5 if !flag(parts.s, state) => Aim::Own,
-        _ => Aim::Nothing,
-    }
-}
 
-fn is_aimed(aim: Aim, judged: &Judged, parts: Parts<'_>, next: u8) -> bool {
-    match aim {
-        Aim::First => flag(parts.r, next),
-        Aim::Below(number) => {
-            flag(judged.yes.as_slice(), next)
-                && judged.numbers.get(next as usize).copied().unwrap_or(NONE) < number
+    fn until<W: Wanting>(&self) -> Result<Judged, AllocError> {
+        let parts = self.parts;
+        let seeds = flags(self.heap, self.states, |state| parts.s(state))?;
+        let open = flags(self.heap, self.states, |state| parts.r(state))?;
+        let numbers = numbers::<W>(self.heap, &self.division, &seeds, &open)?;
+        by_rounds(self.heap, &numbers, true)
+    }
+
+    // It is lost where neither part is yes, and where a state is drawn there before s.
+    fn unless<W: Wanting>(&self) -> Result<Judged, AllocError> {
+        let parts = self.parts;
+        let lost = |state| !parts.r(state) && !parts.s(state);
+        let seeds = flags(self.heap, self.states, lost)?;
+        let open = flags(self.heap, self.states, |state| !parts.s(state))?;
+        let numbers = numbers::<W>(self.heap, &self.division, &seeds, &open)?;
+        by_rounds(self.heap, &numbers, false)
+    }
+
+    // The first is how a state is drawn in by those who want the goal, the second by the others.
+    fn judged<W: Wanting, V: Wanting>(&self) -> Result<Judged, AllocError> {
+        match self.goal {
+            Goal::Next => self.next::<W>(),
+            Goal::Until => self.until::<W>(),
+            Goal::Unless => self.unless::<V>(),
         }
-        Aim::Own => flag(judged.yes.as_slice(), next),
-        Aim::Nothing => false,
     }
-}
 
-// The choices, by place, of which some reply leads elsewhere than it should.
-fn failing(
-    heap: Global,
-    division: &Division,
-    kind: u8,
-    judged: &Judged,
-    parts: Parts<'_>,
-) -> Result<Vec<bool>, AllocError> {
-    let mut failing = vec![in heap; false; division.choices.len()]?;
-    for (next, into) in (0..=u8::MAX).zip(division.into.iter()) {
-        for arc in into.iter() {
-            let aim = aim_at(kind, judged, parts, arc.state);
-            if !is_aimed(aim, judged, parts, next) {
-                if let Some(place) = failing.get_mut(arc.choice) {
-                    *place = true;
+    // A choice at the state may lead to the next.
+    fn is_aimed(&self, marks: &[Mark], state: u8, next: u8) -> bool {
+        is_yes(marks, state)
+            && match self.goal {
+                Goal::Next => self.parts.r(next),
+                Goal::Until => steps(marks, next) < steps(marks, state),
+                Goal::Unless => !self.parts.s(state) && is_yes(marks, next),
+            }
+    }
+
+    // The choices, by place, of which some reply leads elsewhere than it should.
+    fn failing(&self, marks: &[Mark]) -> Result<Vec<bool>, AllocError> {
+        let mut failing = vec![in self.heap; false; self.division.choices.len()]?;
+        for (next, node) in (0..=u8::MAX).zip(self.division.nodes.iter()) {
+            for arc in node.into.iter() {
+                if !self.is_aimed(marks, arc.state, next) {
+                    put(&mut failing, arc.choice, true);
                 }
             }
         }
+        Ok(failing)
     }
-    Ok(failing)
-}
 
-// The playbook: the smallest choice of the state that does not fail, and each member's move 1 where there is no aim.
-fn playbook(
-    heap: Global,
-    division: &Division,
-    rule: Rule,
-    judged: &Judged,
-    parts: Parts<'_>,
-) -> Result<Vec<u32>, AllocError> {
-    let failing = failing(heap, division, rule.kind, judged, parts)?;
-    let mut choices = vec![in heap; ones(rule.group); parts.r.len()]?;
-    let mut found = vec![in heap; false; parts.r.len()]?;
-    for (choice, fails) in division.choices.iter().zip(failing.iter()) {
-        if !*fails && !flag(found.as_slice(), choice.state) {
-            if let Some(place) = found.get_mut(choice.state as usize) {
-                *place = true;
-            }
-            if let Some(place) = choices.get_mut(choice.state as usize) {
-                *place = choice.number;
+    // The playbook: the smallest choice of the state that does not fail, and each member's move 1 where all fail.
+    fn playbook(&self, marks: &[Mark]) -> Result<Vec<u32>, AllocError> {
+        let failing = self.failing(marks)?;
+        let mut playbook: Vec<Option<u32>> = vec![in self.heap; None; self.states as usize]?;
+        for (choice, fails) in self.division.choices.iter().zip(failing.iter()) {
+            if !*fails {
+                if let Some(chosen) = playbook.get_mut(choice.state as usize) {
+                    chosen.get_or_insert(choice.number);
+                }
             }
         }
+        let ones = ones(self.group);
+        playbook
+            .iter()
+            .map(|chosen| chosen.unwrap_or(ones))
+            .collect(self.heap)
     }
-    Ok(choices)
 }
 
 impl Judged {
@@ -247,19 +211,27 @@ impl Judged {
         parts: Parts<'_>,
     ) -> Result<Judged, AllocError> {
         match rule.kind {
-            0 => at_once(heap, layout.states, parts.r.to_vec(heap)?),
-            1 => at_once(heap, layout.states, turned(heap, parts.r)?),
-            2 => {
-                let neither = met(heap, parts, false, false)?;
-                at_once(heap, layout.states, turned(heap, neither.as_slice())?)
+            Kind::Label => {
+                let there = |state| layout.has_label(state, rule.r);
+                at_once(heap, &flags(heap, layout.states, there)?)
             }
-            _ => {
-                let division = Division::of(heap, layout, rule.group)?;
-                let mut judged = strategic(heap, &division, rule.kind, parts)?;
-                if rule.is_playable() {
-                    judged.playbook = playbook(heap, &division, rule, &judged, parts)?;
-                }
+            Kind::Not => {
+                let not = |state| !parts.r(state);
+                at_once(heap, &flags(heap, layout.states, not)?)
+            }
+            Kind::Or => {
+                let either = |state| parts.r(state) || parts.s(state);
+                at_once(heap, &flags(heap, layout.states, either)?)
+            }
+            Kind::Can(goal) => {
+                let strategic = Strategic::of(heap, layout, rule.group, goal, parts)?;
+                let mut judged = strategic.judged::<AllReplies, EachChoice>()?;
+                judged.playbook = Some(strategic.playbook(&judged.marks)?);
                 Ok(judged)
+            }
+            Kind::CannotHelp(goal) => {
+                let strategic = Strategic::of(heap, layout, rule.group, goal, parts)?;
+                strategic.judged::<EachChoice, AllReplies>()
             }
         }
     }

@@ -5,6 +5,13 @@ use std::alloc::{AllocError, Global};
 // Player i + 1 has so many moves at place i, 0 for a player that there is not.
 pub type Counts = [u8; 6];
 
+// What there is at a state.
+#[derive(Clone, Copy)]
+pub struct Site {
+    pub counts: Counts,
+    pub labels: u16,
+}
+
 // The vector leads from the state to the next.
 #[derive(Clone, Copy)]
 pub struct Step {
@@ -16,9 +23,10 @@ pub struct Step {
 #[derive(Drop)]
 pub struct Layout {
     pub players: u8,
+    // How many the game tells; each has a site.
     pub states: u16,
-    pub counts: Vec<Counts>,
-    pub labels: Vec<u16>,
+    // By state.
+    pub sites: Vec<Site>,
     pub steps: Vec<Step>,
     // How many vectors lead to no state of the game.
     pub astray: u32,
@@ -26,14 +34,15 @@ pub struct Layout {
 
 // The product of the counts of the first players.
 pub fn product(players: u8, counts: Counts) -> u32 {
-    let mut product: u32 = 1;
-    for count in counts.iter().take(players as usize) {
-        product = product.saturating_mul(u32::from(*count));
-    }
-    product
+    counts
+        .iter()
+        .take(players as usize)
+        .fold(1u32, |product, count| {
+            product.saturating_mul(u32::from(*count))
+        })
 }
 
-// The vector at the place among those of a state, ascending: player 1's move counts fastest.
+// The vector at the place among those of a state, ascending: player 1's move counts fastest. A loop and no fold: three numbers go on from count to count.
 pub fn vector_at(players: u8, counts: Counts, place: u32) -> u32 {
     let mut vector: u32 = 0;
     let mut weight: u32 = 1;
@@ -47,12 +56,13 @@ pub fn vector_at(players: u8, counts: Counts, place: u32) -> u32 {
     vector
 }
 
-fn counts_at<G: Game>(game: &G, state: u8) -> Counts {
-    let mut counts = [0u8; 6];
-    for i in 0..6u8 {
-        counts[i as usize] = game.moves(i + 1, state);
+impl Site {
+    fn of<G: Game>(game: &G, state: u8) -> Site {
+        Site {
+            counts: [1u8, 2, 3, 4, 5, 6].map(|player| game.moves(player, state)),
+            labels: game.labels(state),
+        }
     }
-    counts
 }
 
 impl Layout {
@@ -61,25 +71,21 @@ impl Layout {
         let mut layout = Layout {
             players: game.players(),
             states,
-            counts: Vec::new(heap),
-            labels: Vec::new(heap),
+            sites: Vec::new(heap),
             steps: Vec::new(heap),
             astray: 0,
         };
-        for state in 0..=u8::MAX {
-            if u16::from(state) < states {
-                layout.lay(game, state)?;
-            }
+        for state in (0..=u8::MAX).take(states as usize) {
+            layout.lay(game, state)?;
         }
         Ok(layout)
     }
 
     fn lay<G: Game>(&mut self, game: &G, state: u8) -> Result<(), AllocError> {
-        let counts = counts_at(game, state);
-        self.counts.push(counts)?;
-        self.labels.push(game.labels(state))?;
-        for place in 0..product(self.players, counts) {
-            let vector = vector_at(self.players, counts, place);
+        let site = Site::of(game, state);
+        self.sites.push(site)?;
+        for place in 0..product(self.players, site.counts) {
+            let vector = vector_at(self.players, site.counts, place);
             self.step(state, vector, game.next(state, vector))?;
         }
         Ok(())
@@ -97,5 +103,30 @@ impl Layout {
             _ => self.astray = self.astray.saturating_add(1),
         }
         Ok(())
+    }
+
+    pub fn counts(&self, state: u8) -> Counts {
+        match self.sites.get(state as usize) {
+            Some(site) => site.counts,
+            None => [1; 6],
+        }
+    }
+
+    pub fn has_label(&self, state: u8, label: u8) -> bool {
+        match self.sites.get(state as usize) {
+            Some(site) => site
+                .labels
+                .checked_shr(u32::from(label))
+                .is_some_and(|rest| rest % 2 == 1),
+            None => false,
+        }
+    }
+
+    // Where the vector leads from the state.
+    pub fn next(&self, state: u8, vector: u32) -> Option<u8> {
+        self.steps
+            .iter()
+            .find(|step| step.state == state && step.vector == vector)
+            .map(|step| step.next)
     }
 }

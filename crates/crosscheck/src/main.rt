@@ -16,28 +16,30 @@ mod judged;
 mod layout;
 mod luck;
 mod parts;
+mod places;
 mod rules;
 mod runs;
 mod second;
 mod tally;
+mod trial;
 mod walks;
 mod words;
 
 use anyhow::anyhow;
 use edges::{limits, refusals};
-use parts::{Task, deep_drill, faults, on_book, on_crowded, on_drill};
+use parts::{Bindings, Calls, Deep, Entries, Judging, faults, on_book, on_crowded, on_drill};
 use std::alloc::AllocError;
 use tally::Tally;
 
 // Both judges on drills and books.
 fn judged_games(tally: &mut Tally) -> Result<(), AllocError> {
     for limit in [1u8, 2, 7, 60, 253] {
-        on_drill(tally, limit, Task::Judge)?;
-        deep_drill(tally, limit)?;
+        on_drill(tally, limit, &Judging)?;
+        on_drill(tally, limit, &Deep)?;
     }
     tally.part("drills")?;
     for seed in 0..120 {
-        on_book(tally, seed, false, Task::Judge)?;
+        on_book(tally, seed, false, &Judging)?;
     }
     tally.part("books")?;
     on_crowded(tally)?;
@@ -47,15 +49,15 @@ fn judged_games(tally: &mut Tally) -> Result<(), AllocError> {
 // Both judges on bindings, and what bindings take for entries.
 fn bindings_too(tally: &mut Tally) -> Result<(), AllocError> {
     for limit in [1u8, 2, 7, 60] {
-        on_drill(tally, limit, Task::Bind)?;
+        on_drill(tally, limit, &Bindings)?;
     }
     for seed in 200..240 {
-        on_book(tally, seed, false, Task::Bind)?;
+        on_book(tally, seed, false, &Bindings)?;
     }
     tally.part("bindings")?;
-    on_drill(tally, 1, Task::Enter)?;
+    on_drill(tally, 1, &Entries)?;
     for seed in 300..310 {
-        on_book(tally, seed, true, Task::Enter)?;
+        on_book(tally, seed, true, &Entries)?;
     }
     tally.part("entries")
 }
@@ -63,10 +65,10 @@ fn bindings_too(tally: &mut Tally) -> Result<(), AllocError> {
 // Calls, good and bad.
 fn calls_made(tally: &mut Tally) -> Result<(), AllocError> {
     for limit in 1..6u8 {
-        on_drill(tally, limit, Task::Call)?;
+        on_drill(tally, limit, &Calls)?;
     }
     for seed in 400..440 {
-        on_book(tally, seed, true, Task::Call)?;
+        on_book(tally, seed, true, &Calls)?;
     }
     tally.part("lists of calls")?;
     refusals(tally)?;
@@ -87,8 +89,8 @@ fn compare(tally: &mut Tally) -> Result<(), AllocError> {
 fn main(rt: HostRuntime) -> anyhow::Result<()> {
     let mut tally = Tally::new(rt.alloc());
     compare(&mut tally)?;
-    for line in tally.lines.iter() {
-        rt.println(line.as_str())?;
+    for line in &tally.lines {
+        rt.println(line)?;
     }
     let differ = tally.differ;
     if differ > 0 {

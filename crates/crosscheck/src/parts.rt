@@ -4,140 +4,181 @@ use crate::bench::examine;
 use crate::bindings::bind_all;
 use crate::content::{Content, Plan};
 use crate::entries::enter_all;
-use crate::faults::{compare_beginnings, compare_changes, expect_fault};
+use crate::faults::{Bad, Flaw, compare_beginnings, compare_changes, expect_fault};
 use crate::luck::Luck;
 use crate::rules::{any_rule, deep, everybody, four_groups, nested};
 use crate::tally::{Tally, add};
+use crate::trial::Trial;
 use crate::walks::walk_on;
 use crate::words::Rule;
-use book::UnreadBook;
+use book::{FiledBook, UnreadBook};
 use drill::Drill;
 use game::Game;
 use std::alloc::{AllocError, Global};
 
-// What is done with a game.
-#[derive(Clone, Copy)]
-pub enum Task {
-    // Both judges, by all kinds for every group and by rules of rules.
-    Judge,
-    // The same on bindings to playbooks.
-    Bind,
-    // Calls at random.
-    Call,
-    // Entries of bindings.
-    Enter,
+// What is done with a game, of which rules speak by two labels.
+pub trait Task {
+    fn on_game<G: Game + Drop>(
+        &self,
+        trial: &mut Trial<'_>,
+        name: &str,
+        game: G,
+        labels: (u8, u8),
+    ) -> Result<(), AllocError>;
+
+    // What is done with a book before, if it is the game.
+    fn on_book(
+        &self,
+        _tally: &mut Tally,
+        _name: &str,
+        _filed: &FiledBook<'_>,
+        _content: &Content,
+    ) -> Result<(), AllocError> {
+        Ok(())
+    }
 }
+
+// Both judges, by all kinds for every group and by rules of rules.
+pub struct Judging;
+
+// Both judges by rules that may take many rounds.
+pub struct Deep;
+
+// Both judges on bindings to playbooks.
+pub struct Bindings;
+
+// Calls at random.
+pub struct Calls;
+
+// Entries of bindings.
+pub struct Entries;
 
 // Rules in place of the last ones of a full board.
 fn others(heap: Global, luck: &mut Luck, all: u8) -> Result<Vec<Rule>, AllocError> {
     let many = luck.below(20) as usize;
-    let mut others = Vec::new(heap);
-    for k in 0..many {
-        let standing = 32usize.saturating_sub(many).saturating_add(k);
-        others.push(any_rule(luck, all, standing))?;
-    }
-    Ok(others)
+    (32usize.saturating_sub(many)..32)
+        .map(|standing| any_rule(luck, all, standing))
+        .collect(heap)
 }
 
-// Boards of 32 rules: plain ones, all kinds for four groups, and rules of any rules. A large game has not every group tried.
-fn judge_groups<G: Game + Drop>(
-    tally: &mut Tally,
-    luck: &mut Luck,
-    name: &str,
-    game: G,
-    labels: (u8, u8),
-) -> Result<(), AllocError> {
-    let heap = tally.heap;
-    let all = everybody(game.players());
-    let (states, _) = game.states();
-    let mut game = game;
-    for k in 0..16u8 {
-        let from = 4 * k;
-        if from <= all && (states < 100 || k % 6 == 0) {
-            let mut rules = four_groups(heap, luck, labels, from, all)?;
-            nested(luck, &mut rules, all, 32)?;
-            let others = others(heap, luck, all)?;
-            let (back, _) = examine(tally, name, game, rules.as_slice(), others.as_slice())?;
-            game = back;
+impl Task for Judging {
+    // Boards of 32 rules: plain ones, all kinds for four groups, and rules of any rules. A large game has not every group tried.
+    fn on_game<G: Game + Drop>(
+        &self,
+        trial: &mut Trial<'_>,
+        name: &str,
+        game: G,
+        labels: (u8, u8),
+    ) -> Result<(), AllocError> {
+        let heap = trial.tally.heap;
+        let all = everybody(game.players());
+        let (states, _) = game.states();
+        let mut game = game;
+        for k in 0..16u8 {
+            let from = 4 * k;
+            if from <= all && (states < 100 || k % 6 == 0) {
+                let mut rules = four_groups(heap, &mut trial.luck, labels, from, all)?;
+                nested(&mut trial.luck, &mut rules, all, 32)?;
+                let others = others(heap, &mut trial.luck, all)?;
+                let (back, _) = examine(trial.tally, name, game, &rules, &others)?;
+                game = back;
+            }
         }
+        add(&mut trial.tally.compared.games, 1);
+        Ok(())
     }
-    add(&mut tally.compared.games, 1);
-    Ok(())
-}
 
-fn bind_groups<G: Game + Drop>(
-    tally: &mut Tally,
-    luck: &mut Luck,
-    name: &str,
-    game: G,
-    labels: (u8, u8),
-) -> Result<(), AllocError> {
-    let all = everybody(game.players());
-    let from = luck.byte(u32::from(all).saturating_add(1)) / 4 * 4;
-    let rules = four_groups(tally.heap, luck, labels, from, all)?;
-    let _game = bind_all(tally, luck, name, game, rules.as_slice())?;
-    Ok(())
-}
-
-fn on_game<G: Game + Drop>(
-    tally: &mut Tally,
-    luck: &mut Luck,
-    name: &str,
-    game: G,
-    labels: (u8, u8),
-    task: Task,
-) -> Result<(), AllocError> {
-    match task {
-        Task::Judge => judge_groups(tally, luck, name, game, labels),
-        Task::Bind => bind_groups(tally, luck, name, game, labels),
-        Task::Call => walk_on(tally, name, game, luck),
-        Task::Enter => enter_all(tally, name, game),
+    fn on_book(
+        &self,
+        tally: &mut Tally,
+        name: &str,
+        filed: &FiledBook<'_>,
+        content: &Content,
+    ) -> Result<(), AllocError> {
+        compare_answers(tally, name, filed, content)
     }
 }
 
-// A board of rules that may take many rounds.
-pub fn deep_drill(tally: &mut Tally, limit: u8) -> Result<(), AllocError> {
-    let name = format!(in tally.heap; "drill {limit}")?;
-    let rules = deep(tally.heap, (8, 0))?;
-    match Drill::new(limit) {
-        Ok(drill) => {
-            let (_drill, _) = examine(tally, name.as_str(), drill, rules.as_slice(), &[])?;
-            Ok(())
-        }
-        Err(_) => tally.demand(false, name.as_str(), "there is none"),
+impl Task for Deep {
+    fn on_game<G: Game + Drop>(
+        &self,
+        trial: &mut Trial<'_>,
+        name: &str,
+        game: G,
+        labels: (u8, u8),
+    ) -> Result<(), AllocError> {
+        let rules = deep(trial.tally.heap, labels)?;
+        examine(trial.tally, name, game, &rules, &[])?;
+        Ok(())
+    }
+}
+
+impl Task for Bindings {
+    fn on_game<G: Game + Drop>(
+        &self,
+        trial: &mut Trial<'_>,
+        name: &str,
+        game: G,
+        labels: (u8, u8),
+    ) -> Result<(), AllocError> {
+        let all = everybody(game.players());
+        let from = trial.luck.byte(u32::from(all).saturating_add(1)) / 4 * 4;
+        let rules = four_groups(trial.tally.heap, &mut trial.luck, labels, from, all)?;
+        bind_all(trial, name, game, &rules)?;
+        Ok(())
+    }
+}
+
+impl Task for Calls {
+    fn on_game<G: Game + Drop>(
+        &self,
+        trial: &mut Trial<'_>,
+        name: &str,
+        game: G,
+        _labels: (u8, u8),
+    ) -> Result<(), AllocError> {
+        walk_on(trial, name, game)
+    }
+}
+
+impl Task for Entries {
+    fn on_game<G: Game + Drop>(
+        &self,
+        trial: &mut Trial<'_>,
+        name: &str,
+        game: G,
+        _labels: (u8, u8),
+    ) -> Result<(), AllocError> {
+        enter_all(trial.tally, name, game)
     }
 }
 
 // Does the task with the drill of the limit.
-pub fn on_drill(tally: &mut Tally, limit: u8, task: Task) -> Result<(), AllocError> {
+pub fn on_drill<T: Task>(tally: &mut Tally, limit: u8, task: &T) -> Result<(), AllocError> {
     let name = format!(in tally.heap; "drill {limit}")?;
-    let mut luck = Luck::new(u64::from(limit));
+    let luck = Luck::new(u64::from(limit));
+    let mut trial = Trial { tally, luck };
     match Drill::new(limit) {
-        Ok(drill) => on_game(tally, &mut luck, name.as_str(), drill, (8, 0), task),
-        Err(_) => tally.demand(false, name.as_str(), "there is none"),
+        Ok(drill) => task.on_game(&mut trial, &name, drill, (8, 0)),
+        Err(_) => trial.tally.demand(false, &name, "there is none"),
     }
 }
 
-// Reads the book, compares its answers, and does the task with it.
-fn on_content(
-    tally: &mut Tally,
-    luck: &mut Luck,
+// Reads the book, and does the task with it.
+fn on_content<T: Task>(
+    trial: &mut Trial<'_>,
     name: &str,
     content: &Content,
-    task: Task,
+    task: &T,
 ) -> Result<(), AllocError> {
-    let bytes = content.bytes(tally.heap)?;
-    let unread = UnreadBook {
-        bytes: bytes.as_slice(),
-    };
+    let bytes = content.bytes(trial.tally.heap)?;
+    let unread = UnreadBook { bytes: &bytes };
     let Ok(filed) = unread.read() else {
-        return tally.demand(false, name, "the book is refused");
+        return trial.tally.demand(false, name, "the book is refused");
     };
-    if let Task::Judge = task {
-        compare_answers(tally, name, &filed, content)?;
-    }
-    let labels = (luck.byte(4), luck.byte(16));
-    on_game(tally, luck, name, filed, labels, task)
+    task.on_book(trial.tally, name, &filed, content)?;
+    let labels = (trial.luck.byte(4), trial.luck.byte(16));
+    task.on_game(trial, name, filed, labels)
 }
 
 fn content_of(heap: Global, luck: &mut Luck, plan: Plan) -> Result<Content, AllocError> {
@@ -148,7 +189,12 @@ fn content_of(heap: Global, luck: &mut Luck, plan: Plan) -> Result<Content, Allo
 }
 
 // Does the task with the book of the seed; a small one has at most six states and three players.
-pub fn on_book(tally: &mut Tally, seed: u64, small: bool, task: Task) -> Result<(), AllocError> {
+pub fn on_book<T: Task>(
+    tally: &mut Tally,
+    seed: u64,
+    small: bool,
+    task: &T,
+) -> Result<(), AllocError> {
     let name = format!(in tally.heap; "book {seed}")?;
     let mut luck = Luck::new(seed);
     let mut plan = Plan::any(&mut luck);
@@ -158,40 +204,44 @@ pub fn on_book(tally: &mut Tally, seed: u64, small: bool, task: Task) -> Result<
         plan.most = 12;
     }
     let content = content_of(tally.heap, &mut luck, plan)?;
-    on_content(tally, &mut luck, name.as_str(), &content, task)
+    let mut trial = Trial { tally, luck };
+    on_content(&mut trial, &name, &content, task)
 }
 
 // Judges the book of three states with 4,096 vectors each.
 pub fn on_crowded(tally: &mut Tally) -> Result<(), AllocError> {
     let mut luck = Luck::new(4096);
     let content = Content::crowded(tally.heap, &mut luck, 4)?;
-    on_content(tally, &mut luck, "crowded book", &content, Task::Judge)
+    let mut trial = Trial { tally, luck };
+    on_content(&mut trial, "crowded book", &content, &Judging)
+}
+
+fn bad(flaw: Flaw, byte: usize) -> Result<(), Bad> {
+    Err(Bad { flaw, byte })
 }
 
 // Faults of books at the edges of what a book may be.
 fn edge_faults(tally: &mut Tally) -> Result<(), AllocError> {
     let heap = tally.heap;
     let mut luck = Luck::new(19);
-    expect_fault(tally, "empty book", &[], (15, 0))?;
-    for (first, cause, byte) in [
-        (4u8, 0u8, 0usize),
-        (5, 19, 11),
-        (15, 19, 11),
-        (16, 19, 11),
-        (0, 19, 11),
+    expect_fault(tally, "empty book", &[], bad(Flaw::NoField, 0))?;
+    for (first, due) in [
+        (4u8, Ok(())),
+        (5, bad(Flaw::Value, 11)),
+        (15, bad(Flaw::Value, 11)),
+        (16, bad(Flaw::Value, 11)),
+        (0, bad(Flaw::Value, 11)),
     ] {
-        let content = Content::crowded(heap, &mut luck, first)?;
-        let bytes = content.bytes(heap)?;
-        expect_fault(tally, "crowded book", bytes.as_slice(), (cause, byte))?;
+        let bytes = Content::crowded(heap, &mut luck, first)?.bytes(heap)?;
+        expect_fault(tally, "crowded book", &bytes, due)?;
     }
-    for (len, cause, byte) in [
-        (65533usize, 16u8, 65528usize),
-        (65534, 16, 65528),
-        (65535, 0, 0),
-        (65536, 14, 0),
+    for (len, due) in [
+        (65533usize, bad(Flaw::CutField, 65528)),
+        (65534, bad(Flaw::CutField, 65528)),
+        (65535, Ok(())),
+        (65536, bad(Flaw::BookLength, 0)),
     ] {
-        let bytes = long_book(heap, len)?;
-        expect_fault(tally, "long book", bytes.as_slice(), (cause, byte))?;
+        expect_fault(tally, "long book", &long_book(heap, len)?, due)?;
     }
     Ok(())
 }
@@ -200,9 +250,7 @@ fn edge_faults(tally: &mut Tally) -> Result<(), AllocError> {
 fn long_book(heap: Global, len: usize) -> Result<Vec<u8>, AllocError> {
     let mut bytes = Vec::new(heap);
     bytes.extend_from_slice(b"\x01\0\x03\x01\0\0\x02\0\x06\0\0\x03\0\0\0")?;
-    for _ in 0..9361 {
-        bytes.extend_from_slice(b"\x03\0\x04\0\0\0\0")?;
-    }
+    bytes.extend(b"\x03\0\x04\0\0\0\0".iter().cycle().take(65536))?;
     bytes.truncate(len);
     Ok(bytes)
 }
@@ -221,8 +269,8 @@ fn lucky_faults(tally: &mut Tally, seed: u64) -> Result<(), AllocError> {
     let mut content = Content::any(heap, &mut luck, plan)?;
     nested(&mut luck, &mut content.rules, 63, 3)?;
     let bytes = content.bytes(heap)?;
-    compare_beginnings(tally, name.as_str(), bytes.as_slice())?;
-    compare_changes(tally, name.as_str(), bytes.as_slice())
+    compare_beginnings(tally, &name, &bytes)?;
+    compare_changes(tally, &name, &bytes)
 }
 
 // The reader's faults, compared with those of a walk over the bytes.

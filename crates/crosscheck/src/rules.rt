@@ -1,50 +1,46 @@
 // Rules to judge games by.
 use crate::luck::Luck;
-use crate::words::Rule;
+use crate::words::{Goal, Kind, Rule};
 use std::alloc::{AllocError, Global};
 
 // How many rules come first: two labels and what is made of them.
-const PLAIN: u32 = 5;
+pub const PLAIN: u8 = 5;
 
 // The group of all players.
 pub fn everybody(players: u8) -> u8 {
-    let mut group: u8 = 0;
-    for _ in 0..players {
-        group = group.wrapping_mul(2).wrapping_add(1);
-    }
-    group
+    (0..players).fold(0u8, |group, _| group.wrapping_mul(2).wrapping_add(1))
 }
 
 // Two labels, not the first, always, and not the second.
 pub fn plain(heap: Global, first: u8, second: u8) -> Result<Vec<Rule>, AllocError> {
     let rules = [
-        (0, first, 0),
-        (0, second, 0),
-        (1, 0, 0),
-        (2, 0, 2),
-        (1, 1, 0),
+        (Kind::Label, first, 0),
+        (Kind::Label, second, 0),
+        (Kind::Not, 0, 0),
+        (Kind::Or, 0, 2),
+        (Kind::Not, 1, 0),
     ];
-    let mut plain = Vec::new(heap);
-    for (kind, r, s) in rules {
-        plain.push(Rule {
-            kind,
-            group: 0,
-            r,
-            s,
-        })?;
-    }
-    Ok(plain)
+    let plain = rules.map(|(kind, r, s)| Rule {
+        kind,
+        group: 0,
+        r,
+        s,
+    });
+    plain.to_vec(heap)
 }
 
 // The six kinds that have a group, for this group, with plain parts.
 pub fn grouped(luck: &mut Luck, rules: &mut Vec<Rule>, group: u8) -> Result<(), AllocError> {
-    for kind in 3..9u8 {
-        let unused = kind == 3 || kind == 6;
+    for kind in Kind::ALL.iter().skip(3) {
         rules.push(Rule {
-            kind,
+            kind: *kind,
             group,
-            r: luck.byte(PLAIN),
-            s: if unused { 0 } else { luck.byte(PLAIN) },
+            r: luck.byte(u32::from(PLAIN)),
+            s: if kind.parts() == 2 {
+                luck.byte(u32::from(PLAIN))
+            } else {
+                0
+            },
         })?;
     }
     Ok(())
@@ -59,11 +55,8 @@ pub fn four_groups(
     all: u8,
 ) -> Result<Vec<Rule>, AllocError> {
     let mut rules = plain(heap, labels.0, labels.1)?;
-    for k in 0..4u8 {
-        let group = from.saturating_add(k);
-        if group <= all {
-            grouped(luck, &mut rules, group)?;
-        }
+    for group in (from..=all).take(4) {
+        grouped(luck, &mut rules, group)?;
     }
     Ok(rules)
 }
@@ -72,9 +65,13 @@ pub fn four_groups(
 pub fn deep(heap: Global, labels: (u8, u8)) -> Result<Vec<Rule>, AllocError> {
     let mut rules = plain(heap, labels.0, labels.1)?;
     for group in 0..4u8 {
-        for (kind, r, s) in [(4, 3, 1), (5, 4, 0), (7, 3, 1), (8, 4, 0)] {
-            rules.push(Rule { kind, group, r, s })?;
-        }
+        let deep = [
+            (Kind::Can(Goal::Until), 3, 1),
+            (Kind::Can(Goal::Unless), 4, 0),
+            (Kind::CannotHelp(Goal::Until), 3, 1),
+            (Kind::CannotHelp(Goal::Unless), 4, 0),
+        ];
+        rules.extend(deep.map(|(kind, r, s)| Rule { kind, group, r, s }))?;
     }
     Ok(rules)
 }
@@ -82,36 +79,33 @@ pub fn deep(heap: Global, labels: (u8, u8)) -> Result<Vec<Rule>, AllocError> {
 // A rule of any kind that can be written where so many stand.
 pub fn any_rule(luck: &mut Luck, all: u8, standing: usize) -> Rule {
     let below = u32::try_from(standing).unwrap_or(0);
-    let kind = if below == 0 { 0 } else { luck.byte(9) };
-    let unused = kind == 0 || kind == 1 || kind == 3 || kind == 6;
+    let number = if below == 0 { 0 } else { luck.byte(9) };
+    let kind = Kind::try_from(number).unwrap_or(Kind::Label);
+    let group = match kind {
+        Kind::Label | Kind::Not | Kind::Or => 0,
+        Kind::Can(_) | Kind::CannotHelp(_) => luck.byte(u32::from(all).saturating_add(1)),
+    };
     Rule {
         kind,
-        group: if kind < 3 {
-            0
-        } else {
-            luck.byte(u32::from(all).saturating_add(1))
-        },
-        r: if kind == 0 {
-            luck.byte(16)
-        } else {
+        group,
+        r: luck.byte(if kind == Kind::Label { 16 } else { below }),
+        s: if kind.parts() == 2 {
             luck.byte(below)
+        } else {
+            0
         },
-        s: if unused { 0 } else { luck.byte(below) },
     }
 }
 
-// Adds rules of any kind, whose parts are any earlier ones, until so many stand.
+// Adds rules of any kind, whose parts are any earlier ones, until so many stand, at most 32 of them.
 pub fn nested(
     luck: &mut Luck,
     rules: &mut Vec<Rule>,
     all: u8,
     many: usize,
 ) -> Result<(), AllocError> {
-    for _ in 0..32 {
-        if rules.len() < many {
-            let rule = any_rule(luck, all, rules.len());
-            rules.push(rule)?;
-        }
+    for standing in (rules.len()..many).take(32) {
+        rules.push(any_rule(luck, all, standing))?;
     }
     Ok(())
 }

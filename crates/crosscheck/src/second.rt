@@ -1,10 +1,12 @@
 // The second judge's board: the rules that stand, each judged whole when it is written and shown as far as its rounds have gone.
 ghost use Rattle.std.specs.Prelude.{◌≡◌, vec_len, nat_le, nat_lt};
 
-use crate::flood::NONE;
-use crate::judged::{Judged, Parts, labelled};
+use crate::judged::{Judged, Mark, Parts};
 use crate::layout::Layout;
-use crate::words::{Call, Rule, Said};
+use crate::places::at;
+use crate::rules::everybody;
+use crate::runs::Runs;
+use crate::words::{Call, Kind, Rule, Said, Why};
 use std::alloc::{AllocError, Global};
 
 #[derive(Drop)]
@@ -21,45 +23,35 @@ impl Standing {
         self.rounds as usize >= self.judged.marked.len()
     }
 
-    // A state is open until its round has come, and one of number 256 until the rule is settled.
-    fn says(&self, state: u8) -> Said {
-        let number = self
-            .judged
-            .numbers
-            .get(state as usize)
-            .copied()
-            .unwrap_or(NONE);
-        let yes = self
-            .judged
-            .yes
-            .get(state as usize)
-            .copied()
-            .unwrap_or(false);
-        if number >= self.rounds && !self.is_settled() {
-            Said::Open(NONE)
-        } else if yes {
-            Said::Yes(number)
+    // A state is open until its round has come, and one that has no number until the rule is settled.
+    fn says(&self, state: u8) -> Result<Said, Why> {
+        let mark = self.judged.marks.get(state as usize).ok_or(Why::NoState)?;
+        let has_come = mark.number.is_some_and(|number| number < self.rounds);
+        Ok(if !has_come && !self.is_settled() {
+            Said::Open(None)
+        } else if mark.yes {
+            Said::Yes(mark.number)
         } else {
-            Said::No(number)
-        }
+            Said::No(mark.number)
+        })
     }
 
-    fn marks(&self) -> u16 {
+    // How many states the next round marks.
+    fn next_marks(&self) -> Result<u16, Why> {
         self.judged
             .marked
             .get(self.rounds as usize)
             .copied()
-            .unwrap_or(0)
+            .ok_or(Why::Settled)
     }
 
-    // Why the rule has no playbook now: 9 not settled, 10 of another kind; 0 where it has one.
-    fn no_playbook(&self) -> u8 {
+    fn playbook(&self) -> Result<&[u32], Why> {
         if !self.is_settled() {
-            9
-        } else if !self.rule.is_playable() {
-            10
-        } else {
-            0
+            return Err(Why::Unsettled);
+        }
+        match &self.judged.playbook {
+            Some(playbook) => Ok(playbook.as_slice()),
+            None => Err(Why::NoPlaybook),
         }
     }
 }
@@ -80,6 +72,17 @@ impl Second {
         }
     }
 
+    fn standing(&self, rule: u8) -> Result<&Standing, Why> {
+        self.standing.get(rule as usize).ok_or(Why::NoRule)
+    }
+
+    // The rule of the number.
+    pub fn rule(&self, number: u8) -> Option<Rule> {
+        self.standing
+            .get(number as usize)
+            .map(|standing| standing.rule)
+    }
+
     fn stands(&self, rule: u8) -> bool
         ensures { result ≡ nat_lt rule (vec_len self.now.standing) }
     {
@@ -92,85 +95,88 @@ impl Second {
         u16::from(state) < self.layout.states
     }
 
-    fn part_settled(&self, rule: u8) -> bool {
+    fn marks(&self, rule: u8) -> &[Mark] {
         match self.standing.get(rule as usize) {
-            Some(standing) => standing.is_settled(),
-            None => false,
+            Some(standing) => standing.judged.marks.as_slice(),
+            None => &[],
         }
+    }
+
+    // The marks of the rule's parts.
+    pub fn parts(&self, rule: Rule) -> Parts<'_> {
+        Parts {
+            r: self.marks(rule.r),
+            s: self.marks(rule.s),
+        }
+    }
+
+    // The states from which the playbook names no choice, or has a run that does not meet the rule though it is yes there.
+    pub fn unmet(&self, rule: u8, playbook: &[u32]) -> Result<Vec<u8>, AllocError> {
+        let mut unmet = Vec::new(self.heap);
+        let Ok(standing) = self.standing(rule) else {
+            return Ok(unmet);
+        };
+        let rule = standing.rule;
+        let parts = self.parts(rule);
+        let runs = Runs::of(self.heap, &self.layout, rule.group, playbook)?;
+        for (state, mark) in (0..=u8::MAX).zip(standing.judged.marks.iter()) {
+            if !runs.goes_on(state) || (mark.yes && !runs.meet(rule, state, *mark, parts)?) {
+                unmet.push(state)?;
+            }
+        }
+        Ok(unmet)
+    }
+
+    fn part_settled(&self, rule: u8) -> bool {
+        self.standing(rule).is_ok_and(|part| part.is_settled())
     }
 
     fn parts_settled(&self, rule: Rule) -> bool {
-        match rule.kind {
-            0 => true,
-            1 | 3 | 6 => self.part_settled(rule.r),
-            _ => self.part_settled(rule.r) && self.part_settled(rule.s),
-        }
+        let parts = [rule.r, rule.s];
+        let mut parts = parts.iter().take(rule.kind.parts());
+        parts.all(|part| self.part_settled(*part))
     }
 
     fn group_fits(&self, rule: Rule) -> bool {
-        let mut beyond = rule.group;
-        for _ in 0..self.layout.players {
-            beyond /= 2;
+        match rule.kind {
+            Kind::Label | Kind::Not | Kind::Or => rule.group == 0,
+            Kind::Can(_) | Kind::CannotHelp(_) => rule.group <= everybody(self.layout.players),
         }
-        beyond == 0 && (rule.kind > 2 || rule.group == 0)
     }
 
     fn parts_fit(&self, rule: Rule) -> bool {
-        match rule.kind {
+        match rule.kind.parts() {
             0 => rule.r <= 15 && rule.s == 0,
-            1 | 3 | 6 => self.stands(rule.r) && rule.s == 0,
+            1 => self.stands(rule.r) && rule.s == 0,
             _ => self.stands(rule.r) && self.stands(rule.s),
         }
     }
 
-    // Why the rule cannot be written; 0 where it can.
-    fn unfit(&self, rule: Rule) -> u8 {
+    // The rule that the numbers are, if it can be written.
+    fn fit(&self, numbers: [u8; 4]) -> Result<Rule, Why> {
         if self.standing.len() >= 32 {
-            1
-        } else if rule.kind > 8 {
-            2
-        } else if !self.group_fits(rule) {
-            3
+            return Err(Why::Full);
+        }
+        let [kind, group, r, s] = numbers;
+        let kind = Kind::try_from(kind)?;
+        let rule = Rule { kind, group, r, s };
+        if !self.group_fits(rule) {
+            Err(Why::NoGroup)
         } else if !self.parts_fit(rule) {
-            4
+            Err(Why::NoPart)
         } else {
-            0
+            Ok(rule)
         }
     }
 
-    // What the rule is, judged by the rules that stand.
-    fn judge(&self, rule: Rule) -> Result<Judged, AllocError> {
-        let nowhere = vec![in self.heap; false; self.layout.states as usize]?;
-        if rule.kind == 0 {
-            let there = labelled(self.heap, &self.layout, rule.r)?;
-            let parts = Parts {
-                r: there.as_slice(),
-                s: nowhere.as_slice(),
-            };
-            return Judged::of(self.heap, &self.layout, rule, parts);
-        }
-        let parts = Parts {
-            r: self.verdicts(rule.r, nowhere.as_slice()),
-            s: self.verdicts(rule.s, nowhere.as_slice()),
-        };
-        Judged::of(self.heap, &self.layout, rule, parts)
-    }
-
-    // Where the rule is yes.
-    pub fn verdicts<'a>(&'a self, rule: u8, none: &'a [bool]) -> &'a [bool] {
-        match self.standing.get(rule as usize) {
-            Some(standing) => standing.judged.yes.as_slice(),
-            None => none,
-        }
+    // The number of the rule that a write would make.
+    fn next_rule(&self) -> u8 {
+        u8::try_from(self.standing.len()).unwrap_or(u8::MAX)
     }
 
     fn write(&mut self, rule: Rule) -> Result<Said, AllocError> {
-        let unfit = self.unfit(rule);
-        if unfit > 0 {
-            return Ok(Said::Refused(unfit));
-        }
-        let number = u8::try_from(self.standing.len()).unwrap_or(u8::MAX);
-        let judged = self.judge(rule)?;
+        let number = self.next_rule();
+        let judged = Judged::of(self.heap, &self.layout, rule, self.parts(rule))?;
         self.standing.push(Standing {
             rule,
             judged,
@@ -179,103 +185,68 @@ impl Second {
         Ok(Said::Number(number))
     }
 
-    fn erase(&mut self) -> Said {
-        if self.standing.pop().is_none() {
-            return Said::Refused(5);
-        }
-        Said::Number(u8::try_from(self.standing.len()).unwrap_or(u8::MAX))
+    fn erase(&mut self) -> Result<Said, Why> {
+        self.standing.pop().ok_or(Why::NoRule)?;
+        Ok(Said::Number(self.next_rule()))
     }
 
-    fn round(&mut self, rule: u8) -> Said {
-        let Some(standing) = self.standing.get(rule as usize) else {
-            return Said::Refused(5);
-        };
-        if !self.parts_settled(standing.rule) {
-            return Said::Refused(7);
+    fn round(&mut self, rule: u8) -> Result<Said, Why> {
+        if !self.parts_settled(self.standing(rule)?.rule) {
+            return Err(Why::PartUnsettled);
         }
-        if standing.is_settled() {
-            return Said::Refused(8);
-        }
-        let marks = standing.marks();
-        if let Some(standing) = self.standing.get_mut(rule as usize) {
-            standing.rounds = standing.rounds.saturating_add(1);
-        }
-        Said::Marked(marks)
+        let standing = self.standing.get_mut(rule as usize).ok_or(Why::NoRule)?;
+        let marks = standing.next_marks()?;
+        standing.rounds = standing.rounds.saturating_add(1);
+        Ok(Said::Marked(marks))
     }
 
-    fn ask(&self, rule: u8, state: u8) -> Said {
-        match self.standing.get(rule as usize) {
-            None => Said::Refused(5),
-            Some(_) if !self.has_state(state) => Said::Refused(6),
-            Some(standing) => standing.says(state),
-        }
+    fn ask(&self, rule: u8, state: u8) -> Result<Said, Why> {
+        self.standing(rule)?.says(state)
     }
 
-    fn tell(&self, rule: u8) -> Said {
-        match self.standing.get(rule as usize) {
-            None => Said::Refused(5),
-            Some(standing) => Said::Told(standing.rounds, standing.is_settled()),
-        }
+    fn tell(&self, rule: u8) -> Result<Said, Why> {
+        let standing = self.standing(rule)?;
+        Ok(Said::Told(standing.rounds, standing.is_settled()))
     }
 
-    fn play(&self, rule: u8, state: u8) -> Said {
-        let Some(standing) = self.standing.get(rule as usize) else {
-            return Said::Refused(5);
-        };
+    fn play(&self, rule: u8, state: u8) -> Result<Said, Why> {
+        let standing = self.standing(rule)?;
         if !self.has_state(state) {
-            return Said::Refused(6);
+            return Err(Why::NoState);
         }
-        match standing.no_playbook() {
-            0 => Said::Choice(
-                standing
-                    .judged
-                    .playbook
-                    .get(state as usize)
-                    .copied()
-                    .unwrap_or(0),
-            ),
-            number => Said::Refused(number),
-        }
+        let playbook = standing.playbook()?;
+        Ok(Said::Choice(at(playbook, state as usize, 0)))
     }
 
-    fn copy(&self, rule: u8, place: usize, buffer: &mut Vec<u8>) -> Said {
-        let Some(standing) = self.standing.get(rule as usize) else {
-            return Said::Refused(5);
-        };
-        let number = standing.no_playbook();
-        if number > 0 {
-            return Said::Refused(number);
-        }
+    // Four bytes for each choice from the place on, highest first.
+    fn copy(&self, rule: u8, place: usize, buffer: &mut [u8]) -> Result<Said, Why> {
+        let playbook = self.standing(rule)?.playbook()?;
         let bytes = 4 * self.layout.states as usize;
-        if buffer.len().saturating_sub(place) < bytes {
-            return Said::Refused(11);
+        let room = buffer.get_mut(place..).ok_or(Why::NoRoom)?;
+        if room.len() < bytes {
+            return Err(Why::NoRoom);
         }
-        for (k, choice) in standing.judged.playbook.iter().enumerate() {
-            put(buffer, place.saturating_add(k.saturating_mul(4)), *choice);
+        let written = playbook.iter().flat_map(|choice| choice.to_be_bytes());
+        for (byte, new) in room.iter_mut().zip(written) {
+            *byte = new;
         }
-        Said::Copied(bytes)
+        Ok(Said::Copied(bytes))
     }
 
     // The answer to a call. A copy writes into the buffer.
-    pub fn answer(&mut self, call: Call, buffer: &mut Vec<u8>) -> Result<Said, AllocError> {
-        Ok(match call {
-            Call::Write(rule) => self.write(rule)?,
+    pub fn answer(&mut self, call: Call, buffer: &mut [u8]) -> Result<Said, AllocError> {
+        let answer = match call {
+            Call::Write(numbers) => match self.fit(numbers) {
+                Ok(rule) => Ok(self.write(rule)?),
+                Err(why) => Err(why),
+            },
             Call::Erase => self.erase(),
             Call::Round(rule) => self.round(rule),
             Call::Ask(rule, state) => self.ask(rule, state),
             Call::Tell(rule) => self.tell(rule),
             Call::Play(rule, state) => self.play(rule, state),
             Call::Copy(rule, place) => self.copy(rule, place, buffer),
-        })
-    }
-}
-
-// Four bytes from the place on, highest first.
-fn put(buffer: &mut Vec<u8>, place: usize, choice: u32) {
-    let bytes = choice.to_be_bytes();
-    for i in 0..4usize {
-        if let Some(byte) = buffer.get_mut(place.saturating_add(i)) {
-            *byte = bytes[i];
-        }
+        };
+        Ok(answer.unwrap_or_else(Said::from))
     }
 }

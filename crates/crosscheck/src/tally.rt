@@ -5,7 +5,7 @@ use std::alloc::{AllocError, Global};
 const TOLD: u64 = 40;
 
 // How many of each were compared.
-#[derive(Clone, Copy)]
+#[derive(Clone, Copy, Default)]
 pub struct Compared {
     pub games: u64,
     pub boards: u64,
@@ -25,23 +25,28 @@ pub struct Compared {
     pub faults: u64,
 }
 
-const NOTHING: Compared = Compared {
-    games: 0,
-    boards: 0,
-    rules: 0,
-    rounds: 0,
-    marks: 0,
-    deepest: 0,
-    choices: 0,
-    bytes: 0,
-    runs: 0,
-    bound: 0,
-    calls: 0,
-    refused: 0,
-    answers: 0,
-    books: 0,
-    faults: 0,
-};
+impl Compared {
+    // In the order in which they are told, each with its word.
+    fn counts(self) -> [(&'static str, u64); 15] {
+        [
+            ("", self.games),
+            (" boards", self.boards),
+            (" rules", self.rules),
+            (" rounds", self.rounds),
+            (" marks", self.marks),
+            (" deepest", self.deepest),
+            (" choices", self.choices),
+            (" bytes", self.bytes),
+            (" played", self.runs),
+            (" verdicts", self.bound),
+            (" calls", self.calls),
+            (" refused", self.refused),
+            (" answers", self.answers),
+            (" books", self.books),
+            (" faults", self.faults),
+        ]
+    }
+}
 
 pub fn add(count: &mut u64, more: usize) {
     *count = count.saturating_add(u64::try_from(more).unwrap_or(u64::MAX));
@@ -51,27 +56,19 @@ pub fn add(count: &mut u64, more: usize) {
 pub struct Tally {
     pub heap: Global,
     pub compared: Compared,
-    // How often each refusal from 1 on was given, and each fault from 14 on.
-    pub numbers: [u64; 20],
+    // By number: how often each refusal from 1 on was given, and each fault from 14 on.
+    given: [u64; 20],
     pub differ: u64,
     before: u64,
     pub lines: Vec<String>,
-}
-
-fn entry(line: &mut String, heap: Global, word: &str, count: u64) -> Result<(), AllocError> {
-    if count > 0 {
-        let text = format!(in heap; " {word} {count}")?;
-        line.push_str(text.as_str())?;
-    }
-    Ok(())
 }
 
 impl Tally {
     pub fn new(heap: Global) -> Tally {
         Tally {
             heap,
-            compared: NOTHING,
-            numbers: [0; 20],
+            compared: Compared::default(),
+            given: [0; 20],
             differ: 0,
             before: 0,
             lines: Vec::new(heap),
@@ -80,15 +77,15 @@ impl Tally {
 
     // Notes that a refusal or a fault of this number was given.
     pub fn given(&mut self, number: u8) {
-        if number < 20 {
-            self.numbers[number as usize] = self.numbers[number as usize].saturating_add(1);
+        if let Some(count) = self.given.get_mut(number as usize) {
+            add(count, 1);
         }
     }
 
-    // Notes the number of a mark; 256 is none.
-    pub fn marked(&mut self, number: u16) {
+    // Notes a mark and its number.
+    pub fn marked(&mut self, number: Option<u16>) {
         add(&mut self.compared.marks, 1);
-        if number < 256 {
+        if let Some(number) = number {
             self.compared.deepest = self.compared.deepest.max(u64::from(number));
         }
     }
@@ -113,46 +110,30 @@ impl Tally {
 
     // Ends a part with a line on what was compared in it.
     pub fn part(&mut self, title: &str) -> Result<(), AllocError> {
-        let heap = self.heap;
-        let mut line = String::from_str(heap, title)?;
-        let c = self.compared;
-        if c.games > 0 {
-            let games = format!(in heap; " {}", c.games)?;
-            line.push_str(games.as_str())?;
+        let mut line = String::from_str(self.heap, title)?;
+        for (word, count) in self.compared.counts() {
+            if count > 0 {
+                write!(line, "{word} {count}")?;
+            }
         }
-        entry(&mut line, heap, "boards", c.boards)?;
-        entry(&mut line, heap, "rules", c.rules)?;
-        entry(&mut line, heap, "rounds", c.rounds)?;
-        entry(&mut line, heap, "marks", c.marks)?;
-        entry(&mut line, heap, "deepest", c.deepest)?;
-        entry(&mut line, heap, "choices", c.choices)?;
-        entry(&mut line, heap, "bytes", c.bytes)?;
-        entry(&mut line, heap, "played", c.runs)?;
-        entry(&mut line, heap, "verdicts", c.bound)?;
-        entry(&mut line, heap, "calls", c.calls)?;
-        entry(&mut line, heap, "refused", c.refused)?;
-        entry(&mut line, heap, "answers", c.answers)?;
-        entry(&mut line, heap, "books", c.books)?;
-        entry(&mut line, heap, "faults", c.faults)?;
         let differ = self.differ.saturating_sub(self.before);
-        let end = format!(in heap; " differ {differ}")?;
-        line.push_str(end.as_str())?;
+        write!(line, " differ {differ}")?;
         self.lines.push(line)?;
         self.before = self.differ;
-        self.compared = NOTHING;
+        self.compared = Compared::default();
         Ok(())
     }
 
     // Each refusal and each fault was given at least once, and how often.
     pub fn given_all(&mut self) -> Result<(), AllocError> {
-        let heap = self.heap;
-        let mut line = String::from_str(heap, "refusals and faults")?;
-        for number in 1..20usize {
-            let count = self.numbers[number];
-            let text = format!(in heap; " {number}:{count}")?;
-            line.push_str(text.as_str())?;
-            let never = format!(in heap; "number {number} was never given")?;
-            self.demand(count > 0, "refusals and faults", never.as_str())?;
+        let mut line = String::from_str(self.heap, "refusals and faults")?;
+        let given = self.given;
+        for (number, count) in given.iter().enumerate().skip(1) {
+            write!(line, " {number}:{count}")?;
+            if *count == 0 {
+                let never = format!(in self.heap; "number {number} was never given")?;
+                self.demand(false, "refusals and faults", &never)?;
+            }
         }
         self.lines.push(line)?;
         Ok(())
