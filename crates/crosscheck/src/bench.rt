@@ -12,7 +12,7 @@ use std::alloc::{AllocError, Global};
 pub struct Bench<'a, G> {
     pub tally: &'a mut Tally,
     pub name: &'a str,
-    pub board: Board<G>,
+    board: Board<G>,
     pub second: Second,
 }
 

@@ -43,7 +43,7 @@ fn byte(bytes: &[u8], at: usize) -> u8 {
     places::at(bytes, at, 0)
 }
 
-// The flaw stands at the byte if the test holds.
+// An error with the flaw and its byte if the test holds.
 fn bad_if(test: bool, flaw: Flaw, byte: usize) -> Result<(), Bad> {
     if test {
         Err(Bad { flaw, byte })
@@ -193,7 +193,7 @@ fn same(reader: Result<(), Fault>, walk: Result<(), Bad>) -> bool {
     }
 }
 
-// The same, where it is known what the walk finds.
+// Compares the reader with the walk, where it is known what the walk finds.
 pub fn expect_fault(
     tally: &mut Tally,
     name: &str,

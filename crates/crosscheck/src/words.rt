@@ -17,9 +17,9 @@ pub enum Kind {
     Label,
     Not,
     Or,
-    // The group has a choice for it, whatever is replied.
+    // The group has a choice that brings the goal about, whatever is replied.
     Can(Goal),
-    // The group has no choice against it: each has a reply.
+    // Each choice of the group has a reply that brings the goal about.
     CannotHelp(Goal),
 }
 
@@ -71,7 +71,7 @@ impl From<Kind> for u8 {
     }
 }
 
-#[derive(Clone, Copy, PartialEq, Eq)]
+#[derive(Clone, Copy)]
 pub struct Rule {
     pub kind: Kind,
     pub group: u8,
@@ -94,8 +94,8 @@ impl From<Rule> for [u8; 4] {
     }
 }
 
-// Why a call is refused.
-#[derive(Clone, Copy, PartialEq, Eq)]
+// Why a call is refused, with the number under which that is told.
+#[derive(Clone, Copy)]
 pub enum Why {
     Full = 1,
     NoKind = 2,
@@ -112,7 +112,6 @@ pub enum Why {
     NoLimit = 13,
 }
 
-// The number under which it is told.
 impl From<Why> for u8 {
     fn from(why: Why) -> u8 {
         why as u8
@@ -154,7 +153,7 @@ impl From<Rule> for Call {
     }
 }
 
-// What a call is answered with. A refusal is told by its number; a mark may have no number.
+// What a call is answered with. The judges have no enum of refusals in common, so a refusal is told by its number; a mark may have none.
 #[derive(Clone, Copy, PartialEq, Eq)]
 pub enum Said {
     Refused(u8),
