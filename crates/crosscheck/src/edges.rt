@@ -193,7 +193,7 @@ pub fn limits(tally: &mut Tally) -> Result<(), AllocError> {
                 compare_drill(tally, limit, &drill)?;
                 None
             }
-            Err(refusal) => Some(refusal.number()),
+            Err(refusal) => Some(u8::from(refusal)),
         };
         tally.demand(refused == due, "drill", "a limit is taken or refused")?;
         if let Some(number) = refused {

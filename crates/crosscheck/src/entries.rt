@@ -75,7 +75,7 @@ impl Expected {
 fn refused_set<G: Game>(binding: &mut Binding<G>, state: u8, choice: u32) -> Option<u8> {
     match binding.set(state, choice) {
         Ok(()) => None,
-        Err(refusal) => Some(refusal.number()),
+        Err(refusal) => Some(u8::from(refusal)),
     }
 }
 

@@ -184,7 +184,7 @@ impl<'a> Walk<'a> {
 fn same(reader: Result<(), Fault>, walk: Result<(), Bad>) -> bool {
     match (reader, walk) {
         (Err(fault), Err(bad)) => {
-            fault.cause.number() == u8::from(bad.flaw)
+            u8::from(fault.cause) == u8::from(bad.flaw)
                 && fault.byte == bad.byte
                 && fault.layer == bad.flaw.layer()
         }
@@ -222,7 +222,7 @@ fn compare_faults(tally: &mut Tally, name: &str, bytes: &[u8]) -> Result<(), All
     }
     let heap = tally.heap;
     let (cause, byte) = match reader {
-        Err(fault) => (fault.cause.number(), fault.byte),
+        Err(fault) => (u8::from(fault.cause), fault.byte),
         Ok(()) => (0, 0),
     };
     let (flaw, place) = match walk {

@@ -36,6 +36,6 @@ fn taken<G: Game>(board: &mut Board<G>, call: Call, buffer: &mut [u8]) -> Result
 pub fn answer<G: Game>(board: &mut Board<G>, call: Call, buffer: &mut [u8]) -> Said {
     match taken(board, call, buffer) {
         Ok(said) => said,
-        Err(refusal) => Said::Refused(refusal.number()),
+        Err(refusal) => Said::Refused(u8::from(refusal)),
     }
 }
