@@ -44,15 +44,17 @@ pub fn serving<G: Game>(game: &G, state: u8, group: u8, inside: &[bool; 256]) ->
     ensures plain { state < (G.Game.meaning game.now).states → Serving (G.Game.meaning game.now) group state (set_of inside.now) result }
 {
     let (choices, replies) = choices_and_replies(game, state, group);
+    let mut found = None;
     'choices: for choice in choices {
         for reply in replies {
             if !leads_in(game, state, choice, reply, inside) {
                 continue 'choices;
             }
         }
-        return Some(choice);
+        found = Some(choice);
+        break;
     }
-    None
+    found
 }
 
 // The lowest choice of the group: each member plays move 1.

@@ -1,4 +1,4 @@
-use Rattle.std.proofs.Common.{◌≡◌}
+use Rattle.std.proofs.Common.{◌≡◌, None}
 use Rattle.std.specs.List.{list_all, find}
 use Rattle.game.specs.Serving.{set_of, leads, serves, first_serving}
 use Rattle.search.specs.Left.{numbers_left, Short}
@@ -11,6 +11,7 @@ invariant-choices g l = record {
   ends : (goal.iterator-choices g).is_finite l.choice-iterator;
   decides : first_serving (g.G.Game.meaning l.game) l.group l.state (set_of l.inside) ≡ find (serves (g.G.Game.meaning l.game) l.group l.state (set_of l.inside)) (numbers_left l.choice-iterator);
   short : Short (numbers_left l.choice-iterator);
+  none : l.found ≡ None;
 }
 
 -- the replies that are left decide
