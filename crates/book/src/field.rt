@@ -3,7 +3,8 @@ ghost use Rattle.std.specs.Prelude.{ℕ, ◌+◌, ◌^◌, ◌<◌, ◌≤◌, l
 
 use crate::fault::{Cause, Fault};
 
-// A field: its tag, its value, which is a part of the book's own bytes, and the byte of its tag. Each byte of it has a number.
+// A field: its tag, its value, which is a part of the book's own bytes, and the number of its tag's byte. The numbers of all its
+// bytes fit a usize.
 #[derive(Clone, Copy)]
 pub(crate) struct Field<'a> {
     pub(crate) tag: u8,

@@ -8,8 +8,8 @@ ghost use Rattle.book.specs.Readers.{game_in, limits_in, told};
 use crate::rules::Rules;
 use game::{Game, is_under};
 
-// The bytes of a book and what its heading says. It is a game whatever these are: what is out of range reads as something in
-// range.
+// The bytes of a book and what its heading says, as plain numbers and no Heading: it is a game whatever these are, and what is
+// out of range reads as something in range.
 #[derive(Drop)]
 pub struct FiledBook<'a> {
     pub(crate) bytes: &'a [u8],

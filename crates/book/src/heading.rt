@@ -4,6 +4,7 @@ ghost use Rattle.std.specs.Prelude.{◌≤◌};
 use crate::fault::Fault;
 use crate::field::Field;
 
+// What the heading says, in range.
 #[derive(Clone, Copy)]
 pub(crate) struct Heading {
     pub(crate) players: u8,

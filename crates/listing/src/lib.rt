@@ -13,6 +13,7 @@ use std::alloc::{AllocError, Global};
 use std::fmt;
 use std::fmt::{Display, Formatter, Write};
 
+// The letter of a verdict: a function, since the type is of another crate.
 fn letter(verdict: Verdict) -> &'static str
     ensures { result.now ≡ letter_of verdict }
 {
