@@ -68,7 +68,7 @@ fn bound_move(limit: u32, entry: u32, played: u32) -> u32
     }
 }
 
-// The vector with the entry's moves in the members' places.
+// The vector with the entry's moves in the members' places. As in all_first, the recursion takes any number of players.
 #[tactic(auto, using(crate::proofs::Replaced::placed_none, crate::proofs::Replaced::placed_more, crate::proofs::Replaced::placed_room))]
 fn with_entry(players: u8, most: u32, entry: u32, vector: u32) -> u32
     ensures { result ≡ placed players most entry vector }

@@ -105,6 +105,7 @@ impl Game for Drill {
 
     #[tactic(auto, using(crate::proofs::Vectors::most_is))]
     fn next(&self, state: u8, vector: u32) -> Option<u8> {
+        // Not has_state: a final method of the trait gets no proof in an impl of the trait.
         if state > self.given_up() || !is_under(2, self.most(state), vector) {
             return None;
         }
