@@ -32,9 +32,30 @@ pub struct Content {
     pub rules: Vec<Rule>,
 }
 
+// Which games a plan may be of.
+#[derive(Clone, Copy)]
+pub enum Size {
+    // Of the usual size, or now and then a large one.
+    Any,
+    // Of at most six states and three players.
+    Small,
+}
+
 impl Plan {
-    // A plan of the usual size, or now and then a large one.
-    pub fn any(luck: &mut Luck) -> Plan {
+    pub fn of(luck: &mut Luck, size: Size) -> Plan {
+        let plan = Plan::any(luck);
+        match size {
+            Size::Any => plan,
+            Size::Small => Plan {
+                players: plan.players.min(3),
+                states: plan.states.min(6),
+                most: 12,
+                near: plan.near,
+            },
+        }
+    }
+
+    fn any(luck: &mut Luck) -> Plan {
         let large = luck.often(2);
         Plan {
             players: luck.byte(6).saturating_add(1),

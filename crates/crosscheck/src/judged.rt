@@ -188,11 +188,10 @@ impl<'a> Strategic<'a> {
     fn playbook(&self, marks: &[Mark]) -> Result<Vec<u32>, AllocError> {
         let failing = self.failing(marks)?;
         let mut playbook: Vec<Option<u32>> = vec![in self.heap; None; self.states as usize]?;
-        for (choice, fails) in self.division.choices.iter().zip(failing.iter()) {
-            if !*fails {
-                if let Some(chosen) = playbook.get_mut(choice.state as usize) {
-                    chosen.get_or_insert(choice.number);
-                }
+        let choices = self.division.choices.iter().zip(failing.iter());
+        for (choice, _) in choices.filter(|(_, fails)| !**fails) {
+            if let Some(chosen) = playbook.get_mut(choice.state as usize) {
+                chosen.get_or_insert(choice.number);
             }
         }
         let ones = ones(self.group);

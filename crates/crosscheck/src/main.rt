@@ -26,6 +26,7 @@ mod walks;
 mod words;
 
 use anyhow::anyhow;
+use content::Size;
 use edges::{limits, refusals};
 use parts::{Bindings, Calls, Deep, Entries, Judging, faults, on_book, on_crowded, on_drill};
 use std::alloc::AllocError;
@@ -39,7 +40,7 @@ fn judged_games(tally: &mut Tally) -> Result<(), AllocError> {
     }
     tally.part("drills")?;
     for seed in 0..120 {
-        on_book(tally, seed, false, &Judging)?;
+        on_book(tally, seed, Size::Any, &Judging)?;
     }
     tally.part("books")?;
     on_crowded(tally)?;
@@ -52,12 +53,12 @@ fn bindings_too(tally: &mut Tally) -> Result<(), AllocError> {
         on_drill(tally, limit, &Bindings)?;
     }
     for seed in 200..240 {
-        on_book(tally, seed, false, &Bindings)?;
+        on_book(tally, seed, Size::Any, &Bindings)?;
     }
     tally.part("bindings")?;
     on_drill(tally, 1, &Entries)?;
     for seed in 300..310 {
-        on_book(tally, seed, true, &Entries)?;
+        on_book(tally, seed, Size::Small, &Entries)?;
     }
     tally.part("entries")
 }
@@ -68,7 +69,7 @@ fn calls_made(tally: &mut Tally) -> Result<(), AllocError> {
         on_drill(tally, limit, &Calls)?;
     }
     for seed in 400..440 {
-        on_book(tally, seed, true, &Calls)?;
+        on_book(tally, seed, Size::Small, &Calls)?;
     }
     tally.part("lists of calls")?;
     refusals(tally)?;

@@ -2,7 +2,7 @@
 use crate::answers::compare_answers;
 use crate::bench::examine;
 use crate::bindings::bind_all;
-use crate::content::{Content, Plan};
+use crate::content::{Content, Plan, Size};
 use crate::entries::enter_all;
 use crate::faults::{Bad, Flaw, compare_beginnings, compare_changes, expect_fault};
 use crate::luck::Luck;
@@ -188,21 +188,16 @@ fn content_of(heap: Global, luck: &mut Luck, plan: Plan) -> Result<Content, Allo
     Ok(content)
 }
 
-// Does the task with the book of the seed; a small one has at most six states and three players.
+// Does the task with the book of the seed.
 pub fn on_book<T: Task>(
     tally: &mut Tally,
     seed: u64,
-    small: bool,
+    size: Size,
     task: &T,
 ) -> Result<(), AllocError> {
     let name = format!(in tally.heap; "book {seed}")?;
     let mut luck = Luck::new(seed);
-    let mut plan = Plan::any(&mut luck);
-    if small {
-        plan.players = plan.players.min(3);
-        plan.states = plan.states.min(6);
-        plan.most = 12;
-    }
+    let plan = Plan::of(&mut luck, size);
     let content = content_of(tally.heap, &mut luck, plan)?;
     let mut trial = Trial { tally, luck };
     on_content(&mut trial, &name, &content, task)

@@ -12,7 +12,8 @@ pub fn everybody(players: u8) -> u8 {
 }
 
 // Two labels, not the first, always, and not the second.
-pub fn plain(heap: Global, first: u8, second: u8) -> Result<Vec<Rule>, AllocError> {
+pub fn plain(heap: Global, labels: (u8, u8)) -> Result<Vec<Rule>, AllocError> {
+    let (first, second) = labels;
     let rules = [
         (Kind::Label, first, 0),
         (Kind::Label, second, 0),
@@ -54,7 +55,7 @@ pub fn four_groups(
     from: u8,
     all: u8,
 ) -> Result<Vec<Rule>, AllocError> {
-    let mut rules = plain(heap, labels.0, labels.1)?;
+    let mut rules = plain(heap, labels)?;
     for group in (from..=all).take(4) {
         grouped(luck, &mut rules, group)?;
     }
@@ -63,7 +64,7 @@ pub fn four_groups(
 
 // The plain rules, and for the first four groups the kinds that may take many rounds: always until the second label, and unless the first without the second.
 pub fn deep(heap: Global, labels: (u8, u8)) -> Result<Vec<Rule>, AllocError> {
-    let mut rules = plain(heap, labels.0, labels.1)?;
+    let mut rules = plain(heap, labels)?;
     for group in 0..4u8 {
         let deep = [
             (Kind::Can(Goal::Until), 3, 1),
