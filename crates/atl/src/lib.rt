@@ -33,7 +33,7 @@ pub enum Kind {
     Strategic(Modality, Temporal),
 }
 
-// What a rule has marked a state with: nothing yet, or yes or no with a number. The number 256 stands for none.
+// What a rule has marked a state with: nothing yet, or yes or no with a number. The number 256 stands for none; it is no Option, since 256 is what is answered.
 #[derive(Clone, Copy, PartialEq, Eq, Debug)]
 pub enum Mark {
     Open,

@@ -11,7 +11,7 @@ ghost use Rattle.binding.specs.Entries.{entry_at, present, first_moves, FollowsL
 use game::{Game, Sides, is_choice, is_member, is_under};
 use refusal::Refusal;
 
-// What the group has bound itself to: its choice at each state.
+// What the group has bound itself to: its choice at each state. An array, since a binding never lacks memory.
 #[derive(Drop)]
 struct Entries {
     choices: [u32; 256],

@@ -38,7 +38,7 @@ impl<G: Game> Board<G> {
         game
     }
 
-    // Writes a rule and answers its number.
+    // Writes a rule and answers its number. It takes plain numbers, since any four are answered, most by a refusal.
     pub fn write(&mut self, kind: u8, group: u8, r: u8, s: u8) -> Result<u8, Refusal>
         ensures game { self.new.game ≡ self.old.game }
         ensures does { Does (G.Game.meaning self.old.game) (write_answer (G.Game.meaning self.old.game) kind group r s) (write_after (G.Game.meaning self.old.game) kind group r s) self.old.table self.new.table result }
@@ -70,7 +70,7 @@ impl<G: Game> Board<G> {
         self.table.ask(&self.game, rule, state)
     }
 
-    // The rounds that a rule has had, and whether it is settled.
+    // The rounds that a rule has had, told of any rule, and whether it is settled.
     pub fn tell(&self, rule: u8) -> Result<(u16, bool), Refusal>
         ensures answer { Answers (G.Game.meaning self.now.game) (tell_answer (G.Game.meaning self.now.game) rule) self.now.table result }
         ensures few { FewRounds (G.Game.meaning self.now.game) self.now.table result }

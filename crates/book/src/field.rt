@@ -49,7 +49,7 @@ impl Field<'_> {
     }
 }
 
-// Yields one field after another.
+// Yields one field after another. It keeps the place beside the bytes, since faults tell the byte.
 #[derive(Drop)]
 pub(crate) struct FieldReader<'a> {
     pub(crate) bytes: &'a [u8],

@@ -2,9 +2,10 @@
 use atl::Shown;
 use refusal::Refusal;
 
+// A call is data, and no closure: a list of calls has a law, which speaks of each.
 #[derive(Clone, Copy, PartialEq, Eq, Debug)]
 pub enum Call {
-    // The kind, the group, and the parts r and s.
+    // The kind, the group, and the parts r and s; numbers, since a write of any four is answered.
     Write(u8, u8, u8, u8),
     // The rule.
     Round(u8),
@@ -19,6 +20,7 @@ pub enum Call {
     Copy(u8, usize),
 }
 
+// A refusal is an answer like the others and no error: the list goes on after it.
 #[derive(Clone, Copy, PartialEq, Eq, Debug)]
 pub enum Answer {
     Refused(Refusal),
@@ -28,7 +30,7 @@ pub enum Answer {
     Marked(u16),
     // Of an ask.
     Says(Shown),
-    // Of a tell: the rounds, and whether the rule is settled.
+    // Of a tell: the rounds, which are told of any rule, and whether it is settled.
     Told(u16, bool),
     // Of a play: the choice.
     Choice(u32),

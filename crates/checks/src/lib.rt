@@ -20,7 +20,7 @@ mod tests {
         Drill::new(limit).map_err(|_| Fail::new("no drill of this limit"))
     }
 
-    // The number of the refusal, or 0 where the call was taken.
+    // The number of the refusal, or 0 where the call was taken: a test names what is told to users.
     fn refused<T: Drop>(answer: Result<T, Refusal>) -> u8 {
         match answer {
             Ok(_) => 0,
@@ -232,7 +232,11 @@ mod tests {
     // The fault of the first bytes of the meeting book: its fields stand at these places, and its rules from 33 on.
     fn truncated(len: usize) -> (u8, usize) {
         let fields = [0usize, 6, 17, 25, 33, 40, 47, 54];
-        let field = fields.into_iter().filter(|at| *at <= len).max().unwrap_or(0);
+        let field = fields
+            .into_iter()
+            .filter(|at| *at <= len)
+            .max()
+            .unwrap_or(0);
         if field < len {
             (16, field)
         } else if field < 33 {

@@ -142,6 +142,7 @@ fn field(bytes: &mut Vec<u8>, tag: u8, value: &[u8]) -> Result<(), AllocError> {
 
 impl Content {
     pub fn any(heap: Global, luck: &mut Luck, plan: Plan) -> Result<Content, AllocError> {
+        // A `for`, since luck is drawn and memory asked for in each turn.
         let mut pages = Vec::new(heap);
         for state in (0..=u8::MAX).take(plan.states as usize) {
             pages.push(Page::any(heap, luck, plan, state)?)?;

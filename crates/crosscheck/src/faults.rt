@@ -168,6 +168,7 @@ impl<'a> Walk<'a> {
     fn book(self) -> Result<(), Bad> {
         let len = self.bytes.len();
         bad_if(len > 65535, Flaw::BookLength, 0)?;
+        // A `for`, since a walk that only goes on has no measure: a book has fewer fields than bytes.
         let mut tag: usize = 0;
         for k in 0..65536usize {
             if tag >= len {

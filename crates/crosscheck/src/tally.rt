@@ -56,7 +56,7 @@ pub fn add(count: &mut u64, more: usize) {
 pub struct Tally {
     pub heap: Global,
     pub compared: Compared,
-    // By number: how often each refusal from 1 on was given, and each fault from 14 on.
+    // By number, as they are printed: how often each refusal from 1 on was given, and each fault from 14 on.
     given: [u64; 20],
     pub differ: u64,
     before: u64,

@@ -23,7 +23,8 @@ pub fn is_member(group: u8, player: u8) -> bool
 }
 
 impl Sides {
-    // The sides of a state for a group, each move count asked once.
+    // The sides of a state for a group, each move count asked once. Game, state and group stay three parameters, here and
+    // above: a struct that lends the game would put its path into each clause.
     #[tactic(auto, using(crate::proofs::Highest::rooms, crate::proofs::Highest::all_passed, crate::proofs::Highest::highest_none))]
     pub fn at<G: Game>(game: &G, state: u8, group: u8) -> Sides
         ensures players { result.players ≡ (G.Game.meaning game.now).players }

@@ -20,6 +20,7 @@ use drill::Drill;
 use game::Game;
 use std::alloc::{AllocError, Global};
 
+// Three named examples and no closure: a caller asks for one by its name.
 pub enum Example {
     // The drill of limit 1, and the playbook of its rule 6.
     Drill,
@@ -62,6 +63,7 @@ static MEETING: [(Call, u8); 3] = [
     (Call::Write(6, 1, 0, 0), 1),
 ];
 
+// A function for each table, since each promises the rows of its own example.
 fn drill_rows() -> &'static [(Call, u8)]
     ensures { result.now ≡ map row_of drill_lines }
 {

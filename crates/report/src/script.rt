@@ -18,7 +18,7 @@ fn add_rounds(calls: &mut Vec<Call>, states: u16, rule: u8) -> Result<(), AllocE
     Ok(())
 }
 
-// A question for each state.
+// A question for each state. A `for`: in a closure the cast would need its bound for every number.
 fn add_asks(calls: &mut Vec<Call>, states: u16, rule: u8) -> Result<(), AllocError>
     requires { states ≤ 256 }
     ensures { OnOk result (calls.new.items ≡ calls.old.items ++ asks rule states) }

@@ -17,7 +17,8 @@ fn faulted(heap: Global, fault: Fault) -> Result<Report, AllocError>
     Ok(Report::Declined(fault_line(heap, fault)?))
 }
 
-// The listing of a session book, or the line of its fault or of its first refused rule.
+// The listing of a session book, or the line of its fault or of its first refused rule. The playbook below is read the same
+// way; one function over a closure for the call in the middle would owe a longer contract than both have.
 pub fn list_book(heap: Global, bytes: &[u8]) -> Result<Report, AllocError>
     ensures { IfOk result (OfBook bytes.now listed) }
 {

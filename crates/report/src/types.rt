@@ -4,7 +4,7 @@ ghost use Rattle.report.specs.Stopping.{IsNoMemory};
 use refusal::Refusal;
 use std::alloc::{AllocError, AllocFailed};
 
-// What is printed: what was asked for, or one line that says why not.
+// What is printed: what was asked for, or one line that says why not. That line is no error: it is printed as the others are.
 #[derive(Drop)]
 pub enum Report {
     Listing(String),

@@ -37,7 +37,8 @@ fn choices_and_replies<G: Game>(game: &G, state: u8, group: u8) -> (Numbers, Num
     )
 }
 
-// The smallest choice of the group all of whose replies lead into the set.
+// The smallest choice of the group all of whose replies lead into the set. Loops and no chain of methods, as the search is told:
+// a bad reply goes on with the next choice, and a choice without one ends the search.
 #[tactic(auto, unfolding(game::specs::Serving::first_serving, game::specs::Serving::serves, game::specs::Serving::leads))]
 pub fn serving<G: Game>(game: &G, state: u8, group: u8, inside: &[bool; 256]) -> Option<u32>
     ensures value { result ≡ first_serving (G.Game.meaning game.now) group state (set_of inside.now) }

@@ -30,7 +30,7 @@ pub struct Table {
     ghost ok: { count ≤ 32 },
 }
 
-// The yes states of a rule's parts.
+// The yes states of a rule's parts: a flag for each state that a byte names, by its number.
 #[derive(Clone, Copy)]
 pub struct Parts {
     pub(crate) r: [bool; 256],
