@@ -48,7 +48,7 @@ pub enum Verdict {
     No,
 }
 
-// A mark as it is answered: an open state has the number 256.
+// A mark as it is answered: an open state has the number 256, which tells users that there is none.
 #[derive(Clone, Copy, PartialEq, Eq, Debug)]
 pub struct Shown {
     pub verdict: Verdict,

@@ -150,7 +150,7 @@ mod tests {
         Ok(bytes)
     }
 
-    // The number of the fault and its byte, or 0 and 0 where the book was taken.
+    // The number of the fault and its byte, or 0 and 0 where the book was taken: both are told to users, and so tests name them.
     fn faulty(bytes: &[u8]) -> (u8, usize) {
         let unread = UnreadBook { bytes };
         match unread.read() {

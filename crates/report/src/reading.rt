@@ -7,6 +7,7 @@ use calls::Answer;
 use refusal::Refusal;
 use std::alloc::{AllocError, Global};
 
+// A match of its own for each kind of answer that is read: the enum is of another crate.
 fn refusal_of(answer: Answer) -> Option<Refusal>
     ensures { result ≡ refusal_in answer }
 {

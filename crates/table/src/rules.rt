@@ -107,6 +107,7 @@ impl Table {
         waits_r || waits_s
     }
 
+    // A match, since under `map_or` the proof does not see the two cases.
     fn yes_states(&self, rule: u8) -> [bool; 256]
         ensures { YesArray self.now rule result }
     {
