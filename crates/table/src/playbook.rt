@@ -96,8 +96,7 @@ impl Table {
         ensures { Answers (G.Game.meaning game.now) (play_answer (G.Game.meaning game.now) rule state) self.now result }
     {
         let rule = self.find(rule)?;
-        let (states, _) = game.states();
-        if u16::from(state) >= states {
+        if !game.has_state(state) {
             return Err(Refusal::NoState);
         }
         let temporal = rule.book()?;

@@ -34,6 +34,7 @@ impl Table {
         }
     }
 
+    // By the number of states alone: a table knows no game.
     fn read(&self, states: u16, rule: u8, state: u8) -> Result<Shown, Refusal>
         ensures { result ≡ ask_table states self.now rule state }
     {
