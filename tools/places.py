@@ -46,7 +46,7 @@ def functions():
 
 
 def parameter_groups():
-    """Three or more parameters, by name and type, that three or more functions have."""
+    """Two parameters, by name and type, that three or more functions have."""
     having = collections.defaultdict(set)
     for path, name, signature in functions():
         listed = re.match(r"(?:<[^(]*>)?\((.*?)\)\s*(?:->|requires|ensures|$)", signature, re.S)
@@ -73,7 +73,7 @@ def repeated_facts():
 
 
 def named_twice():
-    """Free functions and methods of one name in two or more crates, but for those of a trait."""
+    """Functions and methods of one name in two or more crates, those of a trait with them."""
     having = collections.defaultdict(set)
     for path, name, _ in functions():
         having[name].add(str(path))

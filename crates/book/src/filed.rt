@@ -1,5 +1,5 @@
 // A book that was read, as a game.
-ghost use Rattle.std.specs.Prelude.{◌≡◌, ◌+◌, ◌*◌, ◌/◌, ◌%◌, ◌^◌, ◌<◌, ◌≤◌, slice_index};
+ghost use Rattle.std.specs.Prelude.{◌≡◌, ◌+◌, ◌*◌, ◌/◌, ◌%◌, ◌^◌, ◌<◌, ◌≤◌, slice_index, nat_lt};
 ghost use Rattle.game.specs.Lists.{highest};
 ghost use Rattle.book.specs.Fields.{after as after_of};
 ghost use Rattle.book.specs.Filed.{players_kept, states_kept, inside as inside_of, state_spot, count_at, moves_at, place as place_of};
@@ -76,14 +76,16 @@ impl<'a> FiledBook<'a> {
         self.states.clamp(1, 256)
     }
 
+    fn is_state(&self, state: u8) -> bool
+        ensures { result ≡ nat_lt state (states_kept self.now.states) }
+    {
+        u16::from(state) < self.state_count()
+    }
+
     fn inside(&self, state: u8) -> u8
         ensures { result ≡ inside_of (states_kept self.now.states) state }
     {
-        if u16::from(state) < self.state_count() {
-            state
-        } else {
-            0
-        }
+        if self.is_state(state) { state } else { 0 }
     }
 
     // Where the field at `at` ends.
@@ -149,7 +151,7 @@ impl Game for FiledBook<'_> {
     }
 
     fn moves(&self, player: u8, state: u8) -> u8 {
-        if 1 <= player && player <= self.player_count() && u16::from(state) < self.state_count() {
+        if 1 <= player && player <= self.player_count() && self.is_state(state) {
             digit(self.most(self.spot(state)), player - 1) as u8
         } else {
             0
@@ -157,7 +159,7 @@ impl Game for FiledBook<'_> {
     }
 
     fn labels(&self, state: u8) -> u16 {
-        if u16::from(state) < self.state_count() {
+        if self.is_state(state) {
             self.number(self.spot(state) + 3)
         } else {
             0
@@ -165,7 +167,7 @@ impl Game for FiledBook<'_> {
     }
 
     fn next(&self, state: u8, vector: u32) -> Option<u8> {
-        if u16::from(state) >= self.state_count() {
+        if !self.is_state(state) {
             return None;
         }
         let at = self.spot(state);

@@ -28,10 +28,7 @@ mod tests {
 
     fn fault(bytes: &[u8]) -> Option<Fault> {
         let book = UnreadBook { bytes };
-        match book.read() {
-            Ok(_) => None,
-            Err(fault) => Some(fault),
-        }
+        book.read().err()
     }
 
     #[test]

@@ -50,10 +50,8 @@ fn order_of(rt: &HostRuntime) -> io::Result<Option<Order>> {
     if words.next().is_some() {
         return Ok(None);
     }
-    match number.as_str().parse::<usize>() {
-        Ok(number) => Ok(asked_for(word.as_str(), number)),
-        Err(_) => Ok(None),
-    }
+    let number = number.as_str().parse::<usize>().ok();
+    Ok(number.and_then(|number| asked_for(word.as_str(), number)))
 }
 
 fn main(rt: HostRuntime) -> anyhow::Result<ExitCode> {

@@ -13,7 +13,7 @@ use std::alloc::{AllocError, Global};
 use std::fmt;
 use std::fmt::{Display, Formatter, Write};
 
-// The letter of a verdict: a function, since the type is of another crate.
+// The letter of a verdict: a function, since a wrapper with a `Display` of its own would be longer than the match.
 fn letter(verdict: Verdict) -> &'static str
     ensures { result.now ≡ letter_of verdict }
 {
@@ -31,7 +31,7 @@ pub struct Row {
     pub marks: Vec<Shown>,
 }
 
-// The numbers of the first line.
+// The numbers of the first line, of any game: no limits are kept here, as a book's heading keeps them.
 #[derive(Clone, Copy)]
 pub struct Heading {
     pub players: u8,

@@ -7,7 +7,7 @@ use calls::Answer;
 use refusal::Refusal;
 use std::alloc::{AllocError, Global};
 
-// A match of its own for each kind of answer that is read: the enum is of another crate.
+// Three short matches, each with a promise of its own: one function for all three would answer an enum that is matched again.
 fn refusal_of(answer: Answer) -> Option<Refusal>
     ensures { result ≡ refusal_in answer }
 {

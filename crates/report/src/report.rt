@@ -80,7 +80,7 @@ impl<G: Game> Judging<G> {
         ensures { IfOk result (Books (G.Game.meaning self.old.board.game) rule self.old.board.table) }
     {
         let heap = self.heap;
-        let mut buffer = vec![in heap; 0u8; self.states as usize * 4]?;
+        let mut buffer = vec![in heap; 0u8; usize::from(self.states) * 4]?;
         match self.copy(byte_of(rule), buffer.as_mut_slice())? {
             Some(refusal) => declined(heap, rule, refusal),
             None => Ok(Report::Playbook(buffer)),

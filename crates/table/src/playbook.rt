@@ -118,7 +118,7 @@ impl Table {
         let rule = self.find(rule)?;
         let temporal = rule.book()?;
         let (states, _) = game.states();
-        let size = states as usize * 4;
+        let size = usize::from(states) * 4;
         if !has_room(buffer.len(), place, size) {
             return Err(Refusal::NoRoom);
         }

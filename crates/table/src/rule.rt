@@ -41,7 +41,7 @@ impl Condition {
     }
 }
 
-// Whether the state is in the set: the one place where a proof opens the definition of a set.
+// Whether the state is in the set. A function, so that the proofs of the rounds open the definition of a set in one place.
 pub(crate) fn has(set: &[bool; 256], state: u8) -> bool
     ensures { result ≡ set_of set.now state }
 {

@@ -34,7 +34,7 @@ impl Table {
         }
     }
 
-    // By the number of states alone: a table knows no game.
+    // By the number of states, which `ask` has from its game: what is read here is the table's own.
     fn read(&self, states: u16, rule: u8, state: u8) -> Result<Shown, Refusal>
         ensures { result ≡ ask_table states self.now rule state }
     {
@@ -45,6 +45,7 @@ impl Table {
         Ok(rule.marks[state as usize].into())
     }
 
+    // The rounds, which are told of any rule, and whether it is settled.
     fn progress(&self, rule: u8) -> Result<(u16, bool), Refusal>
         ensures { result ≡ tell_table self.now rule }
     {
@@ -52,7 +53,7 @@ impl Table {
         Ok((condition.rounds(), condition.is_settled()))
     }
 
-    // The rule to be written, or why it is refused.
+    // The rule to be written, or why it is refused. The four numbers of a write go on one by one: they become a rule here.
     fn admit(&self, players: u8, kind: u8, group: u8, r: u8, s: u8) -> Result<Rule, Refusal>
         ensures { result ≡ admitted (taken players self.now.count kind group r s) group r s }
     {

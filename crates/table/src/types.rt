@@ -11,7 +11,8 @@ pub enum Condition {
     Settled(u16),
 }
 
-// Of a rule: what write took, its marks with their numbers, its rounds and whether it is settled.
+// Of a rule: what write took, its marks with their numbers, its rounds and whether it is settled. The marks are an array,
+// since no call of a board allocates.
 #[derive(Clone, Copy)]
 pub struct Rule {
     pub(crate) kind: Kind,
@@ -22,7 +23,7 @@ pub struct Rule {
     pub(crate) condition: Condition,
 }
 
-// The rules that stand are the first `count`, rule n at place n: an array, since no call of a board allocates.
+// The rules that stand are the first `count`, rule n at place n: an array for the same reason.
 #[derive(Clone, Copy)]
 pub struct Table {
     pub(crate) rules: [Rule; 32],
@@ -30,7 +31,7 @@ pub struct Table {
     ghost ok: { count ≤ 32 },
 }
 
-// The yes states of a rule's parts: a flag for each state that a byte names, by its number.
+// The yes states of a rule's parts: a flag for each state that a byte names, in an array like a rule's marks, for the same reason.
 #[derive(Clone, Copy)]
 pub struct Parts {
     pub(crate) r: [bool; 256],
