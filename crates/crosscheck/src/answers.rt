@@ -2,17 +2,16 @@
 use crate::content::{Content, Page};
 use crate::layout::vector_at;
 use crate::places::at;
-use crate::tally::{Tally, add};
+use crate::tally::{Notes, add};
 use crate::words::Rule;
 use book::{FiledBook, RuleField};
 use game::Game;
 use std::alloc::AllocError;
 
 fn count_of(page: &Page, player: u8) -> u8 {
-    match player.checked_sub(1) {
-        Some(place) => at(&page.counts, place as usize, 0),
-        None => 0,
-    }
+    player
+        .checked_sub(1)
+        .map_or(0, |place| at(&page.counts, place as usize, 0))
 }
 
 // At a state that a byte names: the labels and the moves, of a state that there is not 0.
@@ -40,6 +39,7 @@ fn leads(filed: &FiledBook<'_>, content: &Content, state: u8, page: &Page) -> bo
 }
 
 // What is near a vector and none itself leads nowhere: a move 0, one move too many, a player too many.
+// A loop and no chain: the weight goes on from count to count.
 fn leads_nowhere(filed: &FiledBook<'_>, content: &Content, state: u8, page: &Page) -> bool {
     let first = vector_at(content.players, page.counts, 0);
     let mut weight: u32 = 1;
@@ -69,31 +69,21 @@ fn rules_told(filed: &FiledBook<'_>, content: &Content) -> bool {
 
 // Compares what a filed book answers with its content.
 pub fn compare_answers(
-    tally: &mut Tally,
-    name: &str,
+    notes: &mut Notes<'_>,
     filed: &FiledBook<'_>,
     content: &Content,
 ) -> Result<(), AllocError> {
-    tally.demand(
-        is_told(filed, content),
-        name,
-        "players, states, labels or moves",
-    )?;
-    tally.demand(rules_told(filed, content), name, "the rules told")?;
+    notes.demand(is_told(filed, content), "players, states, labels or moves")?;
+    notes.demand(rules_told(filed, content), "the rules told")?;
     for (state, page) in (0..=u8::MAX).zip(content.pages.iter()) {
-        tally.demand(
-            leads(filed, content, state, page),
-            name,
-            "where a vector leads",
-        )?;
+        notes.demand(leads(filed, content, state, page), "where a vector leads")?;
         let nowhere = leads_nowhere(filed, content, state, page);
-        tally.demand(nowhere, name, "a number that is no vector leads somewhere")?;
-        add(&mut tally.compared.answers, page.nexts.len());
+        notes.demand(nowhere, "a number that is no vector leads somewhere")?;
+        add(&mut notes.tally.compared.answers, page.nexts.len());
     }
     if let Ok(state) = u8::try_from(content.states) {
-        tally.demand(
+        notes.demand(
             filed.next(state, 0x11).is_none(),
-            name,
             "a missing state leads somewhere",
         )?;
     }

@@ -2,16 +2,15 @@
 use crate::first;
 use crate::layout::Layout;
 use crate::second::{Second, Standing};
-use crate::tally::{Tally, add};
+use crate::tally::{Notes, add};
 use crate::words::{Call, Rule, Said};
 use board::Board;
 use game::Game;
 use std::alloc::{AllocError, Global};
 
-// Both judges of a game, its name, and what is counted.
+// Both judges of a game, and what is noted of it.
 pub struct Bench<'a, G> {
-    pub tally: &'a mut Tally,
-    pub name: &'a str,
+    pub notes: Notes<'a>,
     board: Board<G>,
     pub second: Second,
 }
@@ -37,13 +36,14 @@ fn buffer(heap: Global, len: usize) -> Result<Vec<u8>, AllocError> {
 
 impl<'a, G: Game + Drop> Bench<'a, G> {
     // On a new board of the game.
-    pub fn open(tally: &'a mut Tally, name: &'a str, game: G) -> Result<Bench<'a, G>, AllocError> {
-        let layout = Layout::of(tally.heap, &game)?;
-        tally.demand(layout.astray == 0, name, "a vector leads to no state")?;
-        let second = Second::new(tally.heap, layout);
+    pub fn open(notes: Notes<'a>, game: G) -> Result<Bench<'a, G>, AllocError> {
+        let mut notes = notes;
+        let heap = notes.tally.heap;
+        let layout = Layout::of(heap, &game)?;
+        notes.demand(layout.astray == 0, "a vector leads to no state")?;
+        let second = Second::new(heap, layout);
         Ok(Bench {
-            tally,
-            name,
+            notes,
             board: Board::new(game),
             second,
         })
@@ -52,8 +52,7 @@ impl<'a, G: Game + Drop> Bench<'a, G> {
     // The game, and what the second judge says of the rules.
     pub fn close(self) -> (G, Vec<Standing>) {
         let Bench {
-            tally: _,
-            name: _,
+            notes: _,
             board,
             second,
         } = self;
@@ -62,20 +61,17 @@ impl<'a, G: Game + Drop> Bench<'a, G> {
 
     // Tells that the judges answer the call with different words.
     fn differ(&mut self, call: Call, first: Said, second: Said) -> Result<(), AllocError> {
-        let name = self.name;
-        let heap = self.tally.heap;
-        let line = match call.rule().and_then(|rule| self.second.rule(rule)) {
-            Some(rule) => format!(in heap;
-                "differ: {name}: {call} ({rule}): first {first}, second {second}"
-            )?,
-            None => format!(in heap; "differ: {name}: {call}: first {first}, second {second}")?,
+        let heap = self.notes.tally.heap;
+        let what = match call.rule().and_then(|rule| self.second.rule(rule)) {
+            Some(rule) => format!(in heap; "{call} ({rule}): first {first}, second {second}")?,
+            None => format!(in heap; "{call}: first {first}, second {second}")?,
         };
-        self.tally.differs(line)
+        self.notes.differs(&what)
     }
 
     // Puts a call to both judges, with a buffer of so many bytes, and compares answers and bytes.
     pub fn call(&mut self, call: Call, len: usize) -> Result<Said, AllocError> {
-        let heap = self.tally.heap;
+        let heap = self.notes.tally.heap;
         let mut written = buffer(heap, len)?;
         let mut expected = buffer(heap, len)?;
         let first = first::answer(&mut self.board, call, &mut written);
@@ -85,11 +81,11 @@ impl<'a, G: Game + Drop> Bench<'a, G> {
         }
         if written != expected {
             let what = format!(in heap; "{call}: the bytes of the buffer")?;
-            self.tally.demand(false, self.name, &what)?;
+            self.notes.differs(&what)?;
         }
-        add(&mut self.tally.compared.bytes, len);
+        add(&mut self.notes.compared().bytes, len);
         if let Said::Refused(number) = first {
-            self.tally.given(number);
+            self.notes.tally.given(number);
         }
         Ok(first)
     }
@@ -105,7 +101,7 @@ impl<'a, G: Game + Drop> Bench<'a, G> {
 
     // All that tell and ask say of what stands.
     fn seen(&mut self) -> Result<Vec<Said>, AllocError> {
-        let mut seen = Vec::new(self.tally.heap);
+        let mut seen = Vec::new(self.notes.tally.heap);
         for rule in 0..33u8 {
             let told = first::answer(&mut self.board, Call::Tell(rule), &mut []);
             seen.push(told)?;
@@ -121,12 +117,12 @@ impl<'a, G: Game + Drop> Bench<'a, G> {
     pub fn careful(&mut self, call: Call, len: usize) -> Result<Said, AllocError> {
         let before = self.seen()?;
         let said = self.call(call, len)?;
-        add(&mut self.tally.compared.calls, 1);
+        add(&mut self.notes.compared().calls, 1);
         if let Said::Refused(_) = said {
             let same = before == self.seen()?;
-            self.tally
-                .demand(same, self.name, "a refused call changed what stands")?;
-            add(&mut self.tally.compared.refused, 1);
+            self.notes
+                .demand(same, "a refused call changed what stands")?;
+            add(&mut self.notes.compared().refused, 1);
         }
         Ok(said)
     }
@@ -135,7 +131,7 @@ impl<'a, G: Game + Drop> Bench<'a, G> {
     fn marks(&mut self, rule: u8) -> Result<(), AllocError> {
         for state in (0..=u8::MAX).take(self.second.layout.states as usize) {
             let said = self.call(Call::Ask(rule, state), 0)?;
-            self.tally.marked(number_of(said));
+            self.notes.tally.marked(number_of(said));
         }
         Ok(())
     }
@@ -149,15 +145,14 @@ impl<'a, G: Game + Drop> Bench<'a, G> {
                 return Ok(());
             }
             self.marks(rule)?;
-            add(&mut self.tally.compared.rounds, 1);
+            add(&mut self.notes.compared().rounds, 1);
         }
-        self.tally
-            .demand(false, self.name, "a rule is not settled by 259 rounds")
+        self.notes.differs("a rule is not settled by 259 rounds")
     }
 
     // The playbook of a rule, state by state.
     fn choices(&mut self, rule: u8) -> Result<Vec<u32>, AllocError> {
-        let mut choices = Vec::new(self.tally.heap);
+        let mut choices = Vec::new(self.notes.tally.heap);
         for state in (0..=u8::MAX).take(self.second.layout.states as usize) {
             if let Said::Choice(choice) = self.call(Call::Play(rule, state), 0)? {
                 choices.push(choice)?;
@@ -169,22 +164,22 @@ impl<'a, G: Game + Drop> Bench<'a, G> {
     // The playbook of a rule, state by state and copied between other bytes, and then played.
     fn playbook(&mut self, number: u8, rule: Rule) -> Result<(), AllocError> {
         let playbook = self.choices(number)?;
-        add(&mut self.tally.compared.choices, playbook.len());
+        add(&mut self.notes.compared().choices, playbook.len());
         let bytes = 4 * self.second.layout.states as usize;
         self.call(Call::Copy(number, 3), bytes + 7)?;
         self.call(Call::Copy(number, 0), bytes)?;
         self.call(Call::Copy(number, 1), bytes)?;
         let unmet = self.second.unmet(number, &playbook)?;
         add(
-            &mut self.tally.compared.runs,
+            &mut self.notes.compared().runs,
             self.second.layout.states as usize,
         );
-        let name = self.name;
+        let heap = self.notes.tally.heap;
         for state in unmet.iter() {
-            let line = format!(in self.tally.heap;
-                "differ: {name}: rule {number} ({rule}): the playbook from state {state} does not meet it"
+            let what = format!(in heap;
+                "rule {number} ({rule}): the playbook from state {state} does not meet it"
             )?;
-            self.tally.differs(line)?;
+            self.notes.differs(&what)?;
         }
         Ok(())
     }
@@ -193,7 +188,7 @@ impl<'a, G: Game + Drop> Bench<'a, G> {
     fn write(&mut self, rules: &[Rule]) -> Result<(), AllocError> {
         for rule in rules {
             self.call(Call::from(*rule), 0)?;
-            add(&mut self.tally.compared.rules, 1);
+            add(&mut self.notes.compared().rules, 1);
         }
         Ok(())
     }
@@ -241,16 +236,15 @@ impl<'a, G: Game + Drop> Bench<'a, G> {
 
 // Compares both judges on the game. Gives the game back, with what the second judge says of the rules.
 pub fn examine<G: Game + Drop>(
-    tally: &mut Tally,
-    name: &str,
+    notes: Notes<'_>,
     game: G,
     rules: &[Rule],
     others: &[Rule],
 ) -> Result<(G, Vec<Standing>), AllocError> {
-    let mut bench = Bench::open(tally, name, game)?;
+    add(&mut notes.tally.compared.boards, 1);
+    let mut bench = Bench::open(notes, game)?;
     let done = bench.examine(rules, others);
     let closed = bench.close();
     done?;
-    add(&mut tally.compared.boards, 1);
     Ok(closed)
 }

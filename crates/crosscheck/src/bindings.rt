@@ -4,7 +4,7 @@ use crate::judged::Judged;
 use crate::luck::Luck;
 use crate::rules::{PLAIN, everybody, grouped, nested};
 use crate::second::Standing;
-use crate::tally::{Tally, add};
+use crate::tally::{Notes, add};
 use crate::trial::Trial;
 use crate::words::{Goal, Kind, Rule};
 use binding::Binding;
@@ -43,8 +43,7 @@ fn agrees(kind: Kind, free: &Judged, held: &Judged) -> bool {
 
 // Lays a binding of the rule's group to its playbook over the game.
 fn bound<G: Game + Drop>(
-    tally: &mut Tally,
-    name: &str,
+    notes: &mut Notes<'_>,
     game: G,
     free: &Standing,
 ) -> Result<Binding<G>, AllocError> {
@@ -52,7 +51,7 @@ fn bound<G: Game + Drop>(
     let playbook = free.judged.playbook.iter().flatten();
     for (state, choice) in (0..=u8::MAX).zip(playbook) {
         let set = binding.set(state, *choice).is_ok();
-        tally.demand(set, name, "an entry from a playbook is refused")?;
+        notes.demand(set, "an entry from a playbook is refused")?;
     }
     Ok(binding)
 }
@@ -67,14 +66,13 @@ fn examine_bound<G: Game + Drop>(
 ) -> Result<(Binding<G>, Vec<Standing>), AllocError> {
     let all = everybody(game.players());
     let rules = rules_above(trial.tally.heap, &mut trial.luck, below, free.rule, all)?;
-    let binding = bound(trial.tally, name, game, free)?;
-    let (binding, above) = examine(trial.tally, name, binding, &rules, &[])?;
+    let binding = bound(&mut trial.tally.notes(name), game, free)?;
+    let (binding, above) = examine(trial.tally.notes(name), binding, &rules, &[])?;
     let same = above
         .get(PLAIN as usize)
         .is_some_and(|held| agrees(free.rule.kind, &free.judged, &held.judged));
-    trial.tally.demand(
+    trial.tally.notes(name).demand(
         same,
-        name,
         "nobody's verdicts are not those of the group that is bound",
     )?;
     add(&mut trial.tally.compared.bound, free.judged.marks.len());
@@ -112,7 +110,7 @@ pub fn bind_all<G: Game + Drop>(
     game: G,
     rules: &[Rule],
 ) -> Result<G, AllocError> {
-    let (mut game, standing) = examine(trial.tally, name, game, rules, &[])?;
+    let (mut game, standing) = examine(trial.tally.notes(name), game, rules, &[])?;
     for free in standing.iter().skip(PLAIN as usize) {
         if is_bindable(free.rule) {
             game = bind_twice(trial, name, game, &standing, free)?;

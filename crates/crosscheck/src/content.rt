@@ -142,11 +142,9 @@ fn field(bytes: &mut Vec<u8>, tag: u8, value: &[u8]) -> Result<(), AllocError> {
 
 impl Content {
     pub fn any(heap: Global, luck: &mut Luck, plan: Plan) -> Result<Content, AllocError> {
-        // A `for`, since luck is drawn and memory asked for in each turn.
-        let mut pages = Vec::new(heap);
-        for state in (0..=u8::MAX).take(plan.states as usize) {
-            pages.push(Page::any(heap, luck, plan, state)?)?;
-        }
+        let states = (0..=u8::MAX).take(plan.states as usize);
+        let pages = states.map(|state| Page::any(heap, luck, plan, state));
+        let pages = pages.try_collect(heap)?;
         Ok(Content {
             players: plan.players,
             states: plan.states,
@@ -158,10 +156,9 @@ impl Content {
 
     // Three states and six players who have four moves each, at state 0 with so many for the first of them.
     pub fn crowded(heap: Global, luck: &mut Luck, first: u8) -> Result<Content, AllocError> {
-        let mut pages = Vec::new(heap);
-        for first in [first, 4, 4] {
-            pages.push(Page::crowded(heap, luck, [first, 4, 4, 4, 4, 4])?)?;
-        }
+        let pages = [first, 4, 4].into_iter();
+        let pages = pages.map(|first| Page::crowded(heap, luck, [first, 4, 4, 4, 4, 4]));
+        let pages = pages.try_collect(heap)?;
         Ok(Content {
             players: 6,
             states: 3,

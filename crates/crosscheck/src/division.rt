@@ -114,10 +114,8 @@ impl Division {
 
     // The place of the vector's choice among the choices of all states.
     fn place(&self, own: Counts, step: Step) -> usize {
-        let before = match self.nodes.get(step.state as usize) {
-            Some(node) => node.before,
-            None => 0,
-        };
+        let node = self.nodes.get(step.state as usize);
+        let before = node.map_or(0, |node| node.before);
         before.saturating_add(place_of(own, step.vector) as usize)
     }
 

@@ -16,10 +16,10 @@ fn expect(bench: &mut Bench<'_, Drill>, call: Call, due: Option<Why>) -> Result<
     if refused != due {
         let number = refused.unwrap_or(0);
         let due = due.unwrap_or(0);
-        let line = format!(in bench.tally.heap;
+        let line = format!(in bench.notes.tally.heap;
             "differ: refusals: {call}: refused {number}, due {due}"
         )?;
-        bench.tally.differs(line)?;
+        bench.notes.tally.differs(line)?;
     }
     Ok(())
 }
@@ -130,9 +130,9 @@ fn expect_refusals(bench: &mut Bench<'_, Drill>) -> Result<(), AllocError> {
 // The refusals of a board of the drill of limit 1.
 pub fn refusals(tally: &mut Tally) -> Result<(), AllocError> {
     let Ok(drill) = Drill::new(1) else {
-        return tally.demand(false, "drill 1", "there is none");
+        return tally.notes("drill 1").differs("there is none");
     };
-    let mut bench = Bench::open(tally, "drill 1", drill)?;
+    let mut bench = Bench::open(tally.notes("drill 1"), drill)?;
     let done = expect_refusals(&mut bench);
     bench.close();
     done
@@ -179,7 +179,9 @@ fn is_drill(limit: u16, layout: &Layout) -> bool {
 fn compare_drill(tally: &mut Tally, limit: u8, drill: &Drill) -> Result<(), AllocError> {
     let layout = Layout::of(tally.heap, drill)?;
     let name = format!(in tally.heap; "drill {limit}")?;
-    tally.demand(is_drill(u16::from(limit), &layout), &name, "its answers")?;
+    tally
+        .notes(&name)
+        .demand(is_drill(u16::from(limit), &layout), "its answers")?;
     add(&mut tally.compared.answers, layout.steps.len());
     Ok(())
 }
@@ -195,7 +197,9 @@ pub fn limits(tally: &mut Tally) -> Result<(), AllocError> {
             }
             Err(refusal) => Some(u8::from(refusal)),
         };
-        tally.demand(refused == due, "drill", "a limit is taken or refused")?;
+        tally
+            .notes("drill")
+            .demand(refused == due, "a limit is taken or refused")?;
         if let Some(number) = refused {
             tally.given(number);
         }

@@ -3,7 +3,7 @@ use crate::division::{Division, mask, members, ones};
 use crate::layout::{Counts, Layout, Step};
 use crate::places::{at, put};
 use crate::rules::everybody;
-use crate::tally::{Tally, add};
+use crate::tally::{Notes, add};
 use crate::words::Why;
 use binding::Binding;
 use game::Game;
@@ -73,16 +73,12 @@ impl Expected {
 }
 
 fn refused_set<G: Game>(binding: &mut Binding<G>, state: u8, choice: u32) -> Option<u8> {
-    match binding.set(state, choice) {
-        Ok(()) => None,
-        Err(refusal) => Some(u8::from(refusal)),
-    }
+    binding.set(state, choice).err().map(u8::from)
 }
 
 // Tries each number as the entry of the state. The entry is then the last that was taken.
 fn try_entries<G: Game>(
-    tally: &mut Tally,
-    name: &str,
+    notes: &mut Notes<'_>,
     binding: &mut Binding<G>,
     expected: &mut Expected,
     state: u8,
@@ -90,56 +86,50 @@ fn try_entries<G: Game>(
     for number in 0..0x500u32 {
         let due = expected.unfit(state, number).map(u8::from);
         let refused = refused_set(binding, state, number);
-        tally.demand(refused == due, name, "an entry is taken or refused")?;
+        notes.demand(refused == due, "an entry is taken or refused")?;
         match refused {
             None => put(&mut expected.entries, state as usize, number),
             Some(refusal) => {
-                tally.given(refusal);
-                add(&mut tally.compared.refused, 1);
+                notes.tally.given(refusal);
+                add(&mut notes.tally.compared.refused, 1);
             }
         }
-        add(&mut tally.compared.calls, 1);
+        add(&mut notes.tally.compared.calls, 1);
     }
     Ok(())
 }
 
 // The binding is as it should be.
 fn check<G: Game>(
-    tally: &mut Tally,
-    name: &str,
+    notes: &mut Notes<'_>,
     binding: &Binding<G>,
     expected: &Expected,
     what: &str,
 ) -> Result<(), AllocError> {
-    let above = Layout::of(tally.heap, binding)?;
-    tally.demand(expected.is_bound(&above), name, what)
+    let above = Layout::of(notes.tally.heap, binding)?;
+    notes.demand(expected.is_bound(&above), what)
 }
 
 // A binding of the group, whose entries are tried at each state, and at one that there is not.
-fn enter_group<G: Game + Drop>(
-    tally: &mut Tally,
-    name: &str,
-    game: G,
-    group: u8,
-) -> Result<G, AllocError> {
-    let mut expected = Expected::of(tally.heap, &game, group)?;
+fn enter_group<G: Game + Drop>(notes: &mut Notes<'_>, game: G, group: u8) -> Result<G, AllocError> {
+    let mut expected = Expected::of(notes.tally.heap, &game, group)?;
     let mut binding = Binding::new(game, group | MISSING);
-    check(tally, name, &binding, &expected, "a new binding")?;
+    check(notes, &binding, &expected, "a new binding")?;
     for state in (0..=u8::MAX).take(expected.layout.states as usize + 1) {
-        try_entries(tally, name, &mut binding, &mut expected, state)?;
+        try_entries(notes, &mut binding, &mut expected, state)?;
     }
-    check(tally, name, &binding, &expected, "a binding")?;
-    add(&mut tally.compared.games, 1);
+    check(notes, &binding, &expected, "a binding")?;
+    add(&mut notes.tally.compared.games, 1);
     Ok(binding.close())
 }
 
 // Bindings of each group of the game, up to four players, over the game and over a binding of player 1.
-pub fn enter_all<G: Game + Drop>(tally: &mut Tally, name: &str, game: G) -> Result<(), AllocError> {
+pub fn enter_all<G: Game + Drop>(notes: &mut Notes<'_>, game: G) -> Result<(), AllocError> {
     let all = everybody(game.players());
     let mut game = game;
     for group in (0..=all).take(16) {
-        game = enter_group(tally, name, game, group)?;
+        game = enter_group(notes, game, group)?;
     }
-    enter_group(tally, name, Binding::new(game, 1), all.min(3))?;
+    enter_group(notes, Binding::new(game, 1), all.min(3))?;
     Ok(())
 }

@@ -1,6 +1,6 @@
 // The first fault of a book, by a straight walk over its bytes, compared with the reader's.
 use crate::places::{self, put};
-use crate::tally::{Tally, add};
+use crate::tally::{Notes, add};
 use book::{Fault, Layer, UnreadBook};
 use std::alloc::AllocError;
 
@@ -111,26 +111,41 @@ impl<'a> Walk<'a> {
         bad_if(self.byte(place.at(5)) > last, Flaw::Value, place.at(5))
     }
 
+    // The bytes from one place up to another; none where the book does not have them all.
+    fn between(self, from: usize, to: usize) -> &'a [u8] {
+        self.bytes.get(from..to).unwrap_or(&[])
+    }
+
+    // The byte behind the counts of a state.
+    fn counts_end(self, place: Place) -> usize {
+        place.at(5).saturating_add(self.players)
+    }
+
+    fn counts(self, place: Place) -> &'a [u8] {
+        self.between(place.at(5), self.counts_end(place))
+    }
+
     // Each count is from 1 to 15.
-    fn counts(self, place: Place) -> Result<(), Bad> {
-        for at in (place.at(5)..).take(self.players) {
-            let count = self.byte(at);
-            bad_if(count == 0 || count > 15, Flaw::Value, at)?;
+    fn counts_fit(self, place: Place) -> Result<(), Bad> {
+        for (at, count) in (place.at(5)..).zip(self.counts(place)) {
+            bad_if(*count == 0 || *count > 15, Flaw::Value, at)?;
         }
         Ok(())
     }
 
     fn product(self, place: Place) -> usize {
-        (place.at(5)..).take(self.players).fold(
+        let counts = self.counts(place).iter();
+        counts.fold(
             1usize,
-            |product, at| product.saturating_mul(self.byte(at)),
+            |product, count| product.saturating_mul(usize::from(*count)),
         )
     }
 
     // Each next state is there.
-    fn nexts(self, place: Place) -> Result<(), Bad> {
-        for at in place.at(5).saturating_add(self.players)..place.end() {
-            bad_if(self.byte(at) >= self.states, Flaw::Value, at)?;
+    fn nexts_fit(self, place: Place) -> Result<(), Bad> {
+        let from = self.counts_end(place);
+        for (at, next) in (from..).zip(self.between(from, place.end())) {
+            bad_if(usize::from(*next) >= self.states, Flaw::Value, at)?;
         }
         Ok(())
     }
@@ -139,12 +154,12 @@ impl<'a> Walk<'a> {
         let least = self.players.saturating_add(2);
         bad_if(self.byte(place.tag) != 2, Flaw::Tag, place.tag)?;
         bad_if(place.size < least, Flaw::Length, place.tag)?;
-        self.counts(place)?;
+        self.counts_fit(place)?;
         let product = self.product(place);
         bad_if(product > 4096, Flaw::Value, place.at(5))?;
         let size = least.saturating_add(product);
         bad_if(place.size != size, Flaw::Length, place.tag)?;
-        self.nexts(place)
+        self.nexts_fit(place)
     }
 
     fn rule(self, place: Place) -> Result<(), Bad> {
@@ -196,32 +211,31 @@ fn same(reader: Result<(), Fault>, walk: Result<(), Bad>) -> bool {
 
 // Compares the reader with the walk, where it is known what the walk finds.
 pub fn expect_fault(
-    tally: &mut Tally,
-    name: &str,
+    notes: &mut Notes<'_>,
     bytes: &[u8],
     due: Result<(), Bad>,
 ) -> Result<(), AllocError> {
-    tally.demand(
+    notes.demand(
         Walk::of(bytes).book() == due,
-        name,
         "the walk finds another fault than is due",
     )?;
-    compare_faults(tally, name, bytes)
+    compare_faults(notes, bytes)
 }
 
 // Compares the reader with the walk on these bytes.
-fn compare_faults(tally: &mut Tally, name: &str, bytes: &[u8]) -> Result<(), AllocError> {
+fn compare_faults(notes: &mut Notes<'_>, bytes: &[u8]) -> Result<(), AllocError> {
     let reader = UnreadBook { bytes }.read().map(|_| ());
     let walk = Walk::of(bytes).book();
-    add(&mut tally.compared.books, 1);
+    add(&mut notes.tally.compared.books, 1);
     if let Err(bad) = walk {
-        tally.given(u8::from(bad.flaw));
-        add(&mut tally.compared.faults, 1);
+        notes.tally.given(u8::from(bad.flaw));
+        add(&mut notes.tally.compared.faults, 1);
     }
     if same(reader, walk) {
         return Ok(());
     }
-    let heap = tally.heap;
+    let heap = notes.tally.heap;
+    let name = notes.name;
     let (cause, byte) = match reader {
         Err(fault) => (u8::from(fault.cause), fault.byte),
         Ok(()) => (0, 0),
@@ -234,24 +248,24 @@ fn compare_faults(tally: &mut Tally, name: &str, bytes: &[u8]) -> Result<(), All
     let line = format!(in heap;
         "differ: {name} of {len} bytes: the reader finds {cause} at {byte}, the walk {flaw} at {place}"
     )?;
-    tally.differs(line)
+    notes.tally.differs(line)
 }
 
 // The same on each of the book's beginnings.
-pub fn compare_beginnings(tally: &mut Tally, name: &str, bytes: &[u8]) -> Result<(), AllocError> {
+pub fn compare_beginnings(notes: &mut Notes<'_>, bytes: &[u8]) -> Result<(), AllocError> {
     for len in 0..=bytes.len() {
-        compare_faults(tally, name, &bytes[..len])?;
+        compare_faults(notes, &bytes[..len])?;
     }
     Ok(())
 }
 
 // The same with each byte in turn changed to other values.
-pub fn compare_changes(tally: &mut Tally, name: &str, bytes: &[u8]) -> Result<(), AllocError> {
-    let mut changed = bytes.to_vec(tally.heap)?;
+pub fn compare_changes(notes: &mut Notes<'_>, bytes: &[u8]) -> Result<(), AllocError> {
+    let mut changed = bytes.to_vec(notes.tally.heap)?;
     for (at, old) in bytes.iter().enumerate() {
         for new in [0u8, 1, 2, 3, 4, 5, 6, 7, 15, 16, 127, 128, 255] {
             put(&mut changed, at, new);
-            compare_faults(tally, name, &changed)?;
+            compare_faults(notes, &changed)?;
         }
         put(&mut changed, at, *old);
     }

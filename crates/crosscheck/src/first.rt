@@ -34,8 +34,5 @@ fn taken<G: Game>(board: &mut Board<G>, call: Call, buffer: &mut [u8]) -> Result
 
 // The board's answer to a call. A copy writes into the buffer.
 pub fn answer<G: Game>(board: &mut Board<G>, call: Call, buffer: &mut [u8]) -> Said {
-    match taken(board, call, buffer) {
-        Ok(said) => said,
-        Err(refusal) => Said::Refused(u8::from(refusal)),
-    }
+    taken(board, call, buffer).unwrap_or_else(|refusal| Said::Refused(u8::from(refusal)))
 }

@@ -50,10 +50,9 @@ pub struct EachChoice {
 impl EachChoice {
     // Strikes the choice off. Whether it still stood.
     fn strike(&mut self, choice: usize) -> bool {
-        match self.struck.get_mut(choice) {
-            Some(struck) => !mem::replace(struck, true),
-            None => false,
-        }
+        self.struck
+            .get_mut(choice)
+            .is_some_and(|struck| !mem::replace(struck, true))
     }
 }
 
@@ -73,13 +72,10 @@ impl Wanting for EachChoice {
 
 // Lowers the count by one. Whether it came to 0.
 fn lowered(counts: &mut [u32], place: usize) -> bool {
-    match counts.get_mut(place) {
-        Some(count) => {
-            *count = count.saturating_sub(1);
-            *count == 0
-        }
-        None => false,
-    }
+    counts.get_mut(place).is_some_and(|count| {
+        *count = count.saturating_sub(1);
+        *count == 0
+    })
 }
 
 // The states that are drawn in so far: those whose arcs are still to be followed, and the numbers.

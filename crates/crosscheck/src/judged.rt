@@ -6,7 +6,8 @@ use crate::places::put;
 use crate::words::{Goal, Kind, Rule};
 use std::alloc::{AllocError, Global};
 
-// A settled rule's verdict at a state, and the number of its mark.
+// A settled rule's verdict at a state, and the number of its mark. A struct and no enum of the two verdicts: either has a number or none,
+// and most readers ask for one of the two alone.
 #[derive(Clone, Copy, PartialEq, Eq)]
 pub struct Mark {
     pub yes: bool,
@@ -34,10 +35,10 @@ fn is_yes(marks: &[Mark], state: u8) -> bool {
 
 // The steps that an until needs from the state; more than any where it is not yes.
 fn steps(marks: &[Mark], state: u8) -> u16 {
-    match marks.get(state as usize) {
-        Some(mark) => mark.number.unwrap_or(u16::MAX),
-        None => u16::MAX,
-    }
+    marks
+        .get(state as usize)
+        .and_then(|mark| mark.number)
+        .unwrap_or(u16::MAX)
 }
 
 impl Parts<'_> {
@@ -83,6 +84,13 @@ fn at_once(heap: Global, yes: &[bool]) -> Result<Judged, AllocError> {
         marked: vec![in heap; states]?,
         playbook: None,
     })
+}
+
+// A rule that one round settles, which is yes at the states where the test holds.
+fn by_test<F: FnMut(u8) -> bool>(heap: Global, states: u16, test: F) -> Result<Judged, AllocError>
+    requires { (state : F) (x : _) → F.pre state x }
+{
+    at_once(heap, &flags(heap, states, test)?)
 }
 
 // A rule that rounds settle, which is yes at the states that have a number, or at those that have none.
@@ -209,19 +217,11 @@ impl Judged {
         rule: Rule,
         parts: Parts<'_>,
     ) -> Result<Judged, AllocError> {
+        let states = layout.states;
         match rule.kind {
-            Kind::Label => {
-                let there = |state| layout.has_label(state, rule.r);
-                at_once(heap, &flags(heap, layout.states, there)?)
-            }
-            Kind::Not => {
-                let not = |state| !parts.r(state);
-                at_once(heap, &flags(heap, layout.states, not)?)
-            }
-            Kind::Or => {
-                let either = |state| parts.r(state) || parts.s(state);
-                at_once(heap, &flags(heap, layout.states, either)?)
-            }
+            Kind::Label => by_test(heap, states, |state| layout.has_label(state, rule.r)),
+            Kind::Not => by_test(heap, states, |state| !parts.r(state)),
+            Kind::Or => by_test(heap, states, |state| parts.r(state) || parts.s(state)),
             Kind::Can(goal) => {
                 let strategic = Strategic::of(heap, layout, rule.group, goal, parts)?;
                 let mut judged = strategic.judged::<AllReplies, EachChoice>()?;

@@ -23,7 +23,7 @@ pub struct Step {
 #[derive(Drop)]
 pub struct Layout {
     pub players: u8,
-    // How many the game tells; each has a site.
+    // How many the game tells. Kept beside the sites, since a step is laid before the sites of later states.
     pub states: u16,
     // By state.
     pub sites: Vec<Site>,
@@ -106,20 +106,16 @@ impl Layout {
     }
 
     pub fn counts(&self, state: u8) -> Counts {
-        match self.sites.get(state as usize) {
-            Some(site) => site.counts,
-            None => [1; 6],
-        }
+        self.sites
+            .get(state as usize)
+            .map_or([1; 6], |site| site.counts)
     }
 
     pub fn has_label(&self, state: u8, label: u8) -> bool {
-        match self.sites.get(state as usize) {
-            Some(site) => site
-                .labels
-                .checked_shr(u32::from(label))
-                .is_some_and(|rest| rest % 2 == 1),
-            None => false,
-        }
+        self.sites
+            .get(state as usize)
+            .and_then(|site| site.labels.checked_shr(u32::from(label)))
+            .is_some_and(|rest| rest % 2 == 1)
     }
 
     // Where the vector leads from the state.

@@ -6,8 +6,8 @@ use crate::content::{Content, Plan, Size};
 use crate::entries::enter_all;
 use crate::faults::{Bad, Flaw, compare_beginnings, compare_changes, expect_fault};
 use crate::luck::Luck;
-use crate::rules::{any_rule, deep, everybody, four_groups, nested};
-use crate::tally::{Tally, add};
+use crate::rules::{any_rules, deep, everybody, four_groups, nested};
+use crate::tally::{Notes, Tally, add};
 use crate::trial::Trial;
 use crate::walks::walk_on;
 use crate::words::Rule;
@@ -29,8 +29,7 @@ pub trait Task {
     // What is done with a book before, if it is the game.
     fn on_book(
         &self,
-        _tally: &mut Tally,
-        _name: &str,
+        _notes: &mut Notes<'_>,
         _filed: &FiledBook<'_>,
         _content: &Content,
     ) -> Result<(), AllocError> {
@@ -56,9 +55,9 @@ pub struct Entries;
 // Rules in place of the last ones of a full board.
 fn others(heap: Global, luck: &mut Luck, all: u8) -> Result<Vec<Rule>, AllocError> {
     let many = luck.below(20) as usize;
-    (32usize.saturating_sub(many)..32)
-        .map(|standing| any_rule(luck, all, standing))
-        .collect(heap)
+    let mut others = Vec::new(heap);
+    any_rules(luck, &mut others, all, 32usize.saturating_sub(many)..32)?;
+    Ok(others)
 }
 
 impl Task for Judging {
@@ -80,7 +79,7 @@ impl Task for Judging {
                 let mut rules = four_groups(heap, &mut trial.luck, labels, from, all)?;
                 nested(&mut trial.luck, &mut rules, all, 32)?;
                 let others = others(heap, &mut trial.luck, all)?;
-                let (back, _) = examine(trial.tally, name, game, &rules, &others)?;
+                let (back, _) = examine(trial.tally.notes(name), game, &rules, &others)?;
                 game = back;
             }
         }
@@ -90,12 +89,11 @@ impl Task for Judging {
 
     fn on_book(
         &self,
-        tally: &mut Tally,
-        name: &str,
+        notes: &mut Notes<'_>,
         filed: &FiledBook<'_>,
         content: &Content,
     ) -> Result<(), AllocError> {
-        compare_answers(tally, name, filed, content)
+        compare_answers(notes, filed, content)
     }
 }
 
@@ -108,7 +106,7 @@ impl Task for Deep {
         labels: (u8, u8),
     ) -> Result<(), AllocError> {
         let rules = deep(trial.tally.heap, labels)?;
-        examine(trial.tally, name, game, &rules, &[])?;
+        examine(trial.tally.notes(name), game, &rules, &[])?;
         Ok(())
     }
 }
@@ -149,7 +147,7 @@ impl Task for Entries {
         game: G,
         _labels: (u8, u8),
     ) -> Result<(), AllocError> {
-        enter_all(trial.tally, name, game)
+        enter_all(&mut trial.tally.notes(name), game)
     }
 }
 
@@ -160,7 +158,7 @@ pub fn on_drill<T: Task>(tally: &mut Tally, limit: u8, task: &T) -> Result<(), A
     let mut trial = Trial { tally, luck };
     match Drill::new(limit) {
         Ok(drill) => task.on_game(&mut trial, &name, drill, (8, 0)),
-        Err(_) => trial.tally.demand(false, &name, "there is none"),
+        Err(_) => trial.tally.notes(&name).differs("there is none"),
     }
 }
 
@@ -174,9 +172,9 @@ fn on_content<T: Task>(
     let bytes = content.bytes(trial.tally.heap)?;
     let unread = UnreadBook { bytes: &bytes };
     let Ok(filed) = unread.read() else {
-        return trial.tally.demand(false, name, "the book is refused");
+        return trial.tally.notes(name).differs("the book is refused");
     };
-    task.on_book(trial.tally, name, &filed, content)?;
+    task.on_book(&mut trial.tally.notes(name), &filed, content)?;
     let labels = (trial.luck.byte(4), trial.luck.byte(16));
     task.on_game(trial, name, filed, labels)
 }
@@ -219,7 +217,7 @@ fn bad(flaw: Flaw, byte: usize) -> Result<(), Bad> {
 fn edge_faults(tally: &mut Tally) -> Result<(), AllocError> {
     let heap = tally.heap;
     let mut luck = Luck::new(19);
-    expect_fault(tally, "empty book", &[], bad(Flaw::NoField, 0))?;
+    expect_fault(&mut tally.notes("empty book"), &[], bad(Flaw::NoField, 0))?;
     for (first, due) in [
         (4u8, Ok(())),
         (5, bad(Flaw::Value, 11)),
@@ -228,7 +226,7 @@ fn edge_faults(tally: &mut Tally) -> Result<(), AllocError> {
         (0, bad(Flaw::Value, 11)),
     ] {
         let bytes = Content::crowded(heap, &mut luck, first)?.bytes(heap)?;
-        expect_fault(tally, "crowded book", &bytes, due)?;
+        expect_fault(&mut tally.notes("crowded book"), &bytes, due)?;
     }
     for (len, due) in [
         (65533usize, bad(Flaw::CutField, 65528)),
@@ -236,7 +234,8 @@ fn edge_faults(tally: &mut Tally) -> Result<(), AllocError> {
         (65535, Ok(())),
         (65536, bad(Flaw::BookLength, 0)),
     ] {
-        expect_fault(tally, "long book", &long_book(heap, len)?, due)?;
+        let bytes = long_book(heap, len)?;
+        expect_fault(&mut tally.notes("long book"), &bytes, due)?;
     }
     Ok(())
 }
@@ -264,8 +263,9 @@ fn lucky_faults(tally: &mut Tally, seed: u64) -> Result<(), AllocError> {
     let mut content = Content::any(heap, &mut luck, plan)?;
     nested(&mut luck, &mut content.rules, 63, 3)?;
     let bytes = content.bytes(heap)?;
-    compare_beginnings(tally, &name, &bytes)?;
-    compare_changes(tally, &name, &bytes)
+    let mut notes = tally.notes(&name);
+    compare_beginnings(&mut notes, &bytes)?;
+    compare_changes(&mut notes, &bytes)
 }
 
 // The reader's faults, compared with those of a walk over the bytes.

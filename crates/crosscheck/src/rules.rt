@@ -2,6 +2,7 @@
 use crate::luck::Luck;
 use crate::words::{Goal, Kind, Rule};
 use std::alloc::{AllocError, Global};
+use std::ops::Range;
 
 // How many rules come first: two labels and what is made of them.
 pub const PLAIN: u8 = 5;
@@ -98,15 +99,23 @@ pub fn any_rule(luck: &mut Luck, all: u8, standing: usize) -> Rule {
     }
 }
 
-// Adds rules of any kind, whose parts are any earlier ones, until so many stand, at most 32 of them.
+// Adds a rule of any kind for each number of rules that stand, one that can then be written.
+pub fn any_rules(
+    luck: &mut Luck,
+    rules: &mut Vec<Rule>,
+    all: u8,
+    standing: Range<usize>,
+) -> Result<(), AllocError> {
+    rules.extend(standing.map(|standing| any_rule(luck, all, standing)))
+}
+
+// Adds rules of any kind, whose parts are any earlier ones, until so many stand.
 pub fn nested(
     luck: &mut Luck,
     rules: &mut Vec<Rule>,
     all: u8,
     many: usize,
 ) -> Result<(), AllocError> {
-    for standing in (rules.len()..many).take(32) {
-        rules.push(any_rule(luck, all, standing))?;
-    }
-    Ok(())
+    let standing = rules.len()..many;
+    any_rules(luck, rules, all, standing)
 }

@@ -43,10 +43,9 @@ impl Runs {
 
     // Where the steps from the state lead.
     fn from(&self, state: u8) -> &[u8] {
-        match self.leads.get(state as usize) {
-            Some(lead) => lead.as_slice(),
-            None => &[],
-        }
+        self.leads
+            .get(state as usize)
+            .map_or(&[], |lead| lead.as_slice())
     }
 
     // The playbook names a choice of the state: some vector holds it.

@@ -49,10 +49,7 @@ impl Standing {
         if !self.is_settled() {
             return Err(Why::Unsettled);
         }
-        match &self.judged.playbook {
-            Some(playbook) => Ok(playbook.as_slice()),
-            None => Err(Why::NoPlaybook),
-        }
+        self.judged.playbook.as_deref().ok_or(Why::NoPlaybook)
     }
 }
 
@@ -96,10 +93,9 @@ impl Second {
     }
 
     fn marks(&self, rule: u8) -> &[Mark] {
-        match self.standing.get(rule as usize) {
-            Some(standing) => standing.judged.marks.as_slice(),
-            None => &[],
-        }
+        self.standing
+            .get(rule as usize)
+            .map_or(&[], |standing| standing.judged.marks.as_slice())
     }
 
     // The marks of the rule's parts.
@@ -174,7 +170,7 @@ impl Second {
         u8::try_from(self.standing.len()).unwrap_or(u8::MAX)
     }
 
-    fn write(&mut self, rule: Rule) -> Result<Said, AllocError> {
+    fn add(&mut self, rule: Rule) -> Result<Said, AllocError> {
         let number = self.next_rule();
         let judged = Judged::of(self.heap, &self.layout, rule, self.parts(rule))?;
         self.standing.push(Standing {
@@ -183,6 +179,13 @@ impl Second {
             rounds: 0,
         })?;
         Ok(Said::Number(number))
+    }
+
+    fn write(&mut self, numbers: [u8; 4]) -> Result<Said, AllocError> {
+        match self.fit(numbers) {
+            Ok(rule) => self.add(rule),
+            Err(why) => Ok(Said::from(why)),
+        }
     }
 
     fn erase(&mut self) -> Result<Said, Why> {
@@ -236,10 +239,7 @@ impl Second {
     // The answer to a call. A copy writes into the buffer.
     pub fn answer(&mut self, call: Call, buffer: &mut [u8]) -> Result<Said, AllocError> {
         let answer = match call {
-            Call::Write(numbers) => match self.fit(numbers) {
-                Ok(rule) => Ok(self.write(rule)?),
-                Err(why) => Err(why),
-            },
+            Call::Write(numbers) => return self.write(numbers),
             Call::Erase => self.erase(),
             Call::Round(rule) => self.round(rule),
             Call::Ask(rule, state) => self.ask(rule, state),

@@ -99,13 +99,9 @@ impl Tally {
         Ok(())
     }
 
-    // Notes a difference unless the fact holds.
-    pub fn demand(&mut self, holds: bool, name: &str, what: &str) -> Result<(), AllocError> {
-        if !holds {
-            let line = format!(in self.heap; "differ: {name}: {what}")?;
-            self.differs(line)?;
-        }
-        Ok(())
+    // To note what is found of this game or book.
+    pub fn notes<'a>(&'a mut self, name: &'a str) -> Notes<'a> {
+        Notes { tally: self, name }
     }
 
     // Ends a part with a line on what was compared in it.
@@ -132,10 +128,36 @@ impl Tally {
             write!(line, " {number}:{count}")?;
             if *count == 0 {
                 let never = format!(in self.heap; "number {number} was never given")?;
-                self.demand(false, "refusals and faults", &never)?;
+                self.notes("refusals and faults").differs(&never)?;
             }
         }
         self.lines.push(line)?;
         Ok(())
+    }
+}
+
+// The tally, and the name of the game or the book that is compared.
+#[derive(Drop)]
+pub struct Notes<'a> {
+    pub tally: &'a mut Tally,
+    pub name: &'a str,
+}
+
+impl Notes<'_> {
+    // What is counted.
+    pub fn compared(&mut self) -> &mut Compared {
+        &mut self.tally.compared
+    }
+
+    // Notes a difference.
+    pub fn differs(&mut self, what: &str) -> Result<(), AllocError> {
+        let name = self.name;
+        let line = format!(in self.tally.heap; "differ: {name}: {what}")?;
+        self.tally.differs(line)
+    }
+
+    // Notes a difference unless the fact holds.
+    pub fn demand(&mut self, holds: bool, what: &str) -> Result<(), AllocError> {
+        if holds { Ok(()) } else { self.differs(what) }
     }
 }

@@ -71,7 +71,7 @@ pub fn walk_on<G: Game + Drop>(
     let mut rules = Vec::new(trial.tally.heap);
     let many = trial.luck.below(33) as usize;
     nested(&mut trial.luck, &mut rules, everybody(game.players()), many)?;
-    let mut bench = Bench::open(trial.tally, name, game)?;
+    let mut bench = Bench::open(trial.tally.notes(name), game)?;
     let done = walk(&mut bench, &mut trial.luck, &rules);
     bench.close();
     add(&mut trial.tally.compared.games, 1);

@@ -56,6 +56,7 @@ impl TryFrom<u8> for Kind {
 }
 
 impl From<Kind> for u8 {
+    // A match and no search in ALL, which would have to answer for a kind that is not there.
     fn from(kind: Kind) -> u8 {
         match kind {
             Kind::Label => 0,
