@@ -1,6 +1,6 @@
 // Both judges on one game, call by call.
 use crate::first;
-use crate::layout::Layout;
+use crate::layout::{Layout, first_states};
 use crate::second::{Second, Standing};
 use crate::tally::{Notes, add};
 use crate::words::{Call, Rule, Said};
@@ -92,7 +92,7 @@ impl<'a, G: Game + Drop> Bench<'a, G> {
 
     // All that ask says of a rule.
     fn asked(&mut self, rule: u8, seen: &mut Vec<Said>) -> Result<(), AllocError> {
-        for state in (0..=u8::MAX).take(self.second.layout.states as usize) {
+        for state in first_states(self.second.layout.states) {
             let said = first::answer(&mut self.board, Call::Ask(rule, state), &mut []);
             seen.push(said)?;
         }
@@ -129,7 +129,7 @@ impl<'a, G: Game + Drop> Bench<'a, G> {
 
     // Asks both judges for a rule's mark at each state.
     fn marks(&mut self, rule: u8) -> Result<(), AllocError> {
-        for state in (0..=u8::MAX).take(self.second.layout.states as usize) {
+        for state in first_states(self.second.layout.states) {
             let said = self.call(Call::Ask(rule, state), 0)?;
             self.notes.tally.marked(number_of(said));
         }
@@ -153,7 +153,7 @@ impl<'a, G: Game + Drop> Bench<'a, G> {
     // The playbook of a rule, state by state.
     fn choices(&mut self, rule: u8) -> Result<Vec<u32>, AllocError> {
         let mut choices = Vec::new(self.notes.tally.heap);
-        for state in (0..=u8::MAX).take(self.second.layout.states as usize) {
+        for state in first_states(self.second.layout.states) {
             if let Said::Choice(choice) = self.call(Call::Play(rule, state), 0)? {
                 choices.push(choice)?;
             }

@@ -1,5 +1,5 @@
 // Books made by luck, and their bytes.
-use crate::layout::{Counts, product};
+use crate::layout::{Counts, first_states, product};
 use crate::luck::Luck;
 use crate::words::Rule;
 use std::alloc::{AllocError, Global};
@@ -142,8 +142,7 @@ fn field(bytes: &mut Vec<u8>, tag: u8, value: &[u8]) -> Result<(), AllocError> {
 
 impl Content {
     pub fn any(heap: Global, luck: &mut Luck, plan: Plan) -> Result<Content, AllocError> {
-        let states = (0..=u8::MAX).take(plan.states as usize);
-        let pages = states.map(|state| Page::any(heap, luck, plan, state));
+        let pages = first_states(plan.states).map(|state| Page::any(heap, luck, plan, state));
         let pages = pages.try_collect(heap)?;
         Ok(Content {
             players: plan.players,

@@ -1,6 +1,6 @@
 // The entries of a binding: which are taken, and where they lead.
 use crate::division::{Division, mask, members, ones};
-use crate::layout::{Counts, Layout, Step};
+use crate::layout::{Counts, Layout, Step, first_states};
 use crate::places::{at, put};
 use crate::rules::everybody;
 use crate::tally::{Notes, add};
@@ -115,7 +115,7 @@ fn enter_group<G: Game + Drop>(notes: &mut Notes<'_>, game: G, group: u8) -> Res
     let mut expected = Expected::of(notes.tally.heap, &game, group)?;
     let mut binding = Binding::new(game, group | MISSING);
     check(notes, &binding, &expected, "a new binding")?;
-    for state in (0..=u8::MAX).take(expected.layout.states as usize + 1) {
+    for state in first_states(expected.layout.states.saturating_add(1)) {
         try_entries(notes, &mut binding, &mut expected, state)?;
     }
     check(notes, &binding, &expected, "a binding")?;

@@ -1,7 +1,7 @@
 // What the second judge says of a rule.
 use crate::division::{Division, ones};
 use crate::flood::{AllReplies, EachChoice, Wanting, drawn, numbers};
-use crate::layout::Layout;
+use crate::layout::{Layout, first_states};
 use crate::places::put;
 use crate::words::{Goal, Kind, Rule};
 use std::alloc::{AllocError, Global};
@@ -57,7 +57,7 @@ impl Parts<'_> {
 fn flags<F: FnMut(u8) -> bool>(heap: Global, states: u16, test: F) -> Result<Vec<bool>, AllocError>
     requires { (state : F) (x : _) → F.pre state x }
 {
-    (0..=u8::MAX).take(states as usize).map(test).collect(heap)
+    first_states(states).map(test).collect(heap)
 }
 
 // How many states each round marks, by the numbers: the last round marks none.

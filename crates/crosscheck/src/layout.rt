@@ -1,9 +1,16 @@
 // A game laid out once: its counts of moves, its labels, and where each vector of each state leads.
 use game::Game;
 use std::alloc::{AllocError, Global};
+use std::iter::Take;
+use std::ops::RangeInclusive;
 
 // Player i + 1 has so many moves at place i, 0 for a player that there is not.
 pub type Counts = [u8; 6];
+
+// The first states, so many of them, and at most 256.
+pub fn first_states(many: u16) -> Take<RangeInclusive<u8>> {
+    (0..=u8::MAX).take(many as usize)
+}
 
 // What there is at a state.
 #[derive(Clone, Copy)]
@@ -75,7 +82,7 @@ impl Layout {
             steps: Vec::new(heap),
             astray: 0,
         };
-        for state in (0..=u8::MAX).take(states as usize) {
+        for state in first_states(states) {
             layout.lay(game, state)?;
         }
         Ok(layout)

@@ -2,8 +2,8 @@
 use crate::luck::Luck;
 use crate::tally::Tally;
 
-// The luck that a game is tried by, and what is counted. The name of the game stays a parameter: a value with two `&mut` of one
-// lifetime could not lend them on under another name.
+// The luck that a game is tried by, and what is counted. The name of the game stays a parameter: a binding over the game is tried by
+// the same luck under another name.
 #[derive(Drop)]
 pub struct Trial<'a> {
     pub tally: &'a mut Tally,
