@@ -5,7 +5,7 @@ ghost use Rattle.judged.specs.Lines.{rounds_of, judging, judging_from};
 use calls::Call;
 use std::alloc::{AllocError, Global};
 
-// So many rounds of a rule, and a tell before each.
+// So many rounds of a rule, and a tell before each: two pushes in each turn, for which a chain would be no plainer.
 fn rounds(calls: &mut Vec<Call>, rule: u8, rounds: u8) -> Result<(), AllocError>
     ensures { OnOk result (calls.new.items ≡ calls.old.items ++ rounds_of rule rounds) }
 {

@@ -9,6 +9,7 @@ use calls::Call;
 use std::alloc::{AllocError, Global};
 
 // As many rounds of the rule as any rule may need. Those after the one that settles it are refused and change nothing.
+// One push in each turn: a chain of repeated calls would be no plainer.
 fn add_rounds(calls: &mut Vec<Call>, states: u16, rule: u8) -> Result<(), AllocError>
     ensures { OnOk result (calls.new.items ≡ calls.old.items ++ replicate (states + 1) (Round rule)) }
 {
