@@ -52,16 +52,24 @@ impl From<Cause> for u8 {
     }
 }
 
-// The word for a layer.
+impl Layer {
+    // The word for the layer.
+    pub fn word(self) -> &'static str
+        ensures { result.now ≡ word_of self }
+    {
+        match self {
+            Layer::Book => "book",
+            Layer::Field => "field",
+            Layer::Record => "record",
+        }
+    }
+}
+
 impl Display for Layer {
     ghost output = { λ layer. Some (word_of layer) };
 
     fn fmt<W: Write>(&self, f: &mut Formatter<W>) -> fmt::Result {
-        f.write_str(match self {
-            Layer::Book => "book",
-            Layer::Field => "field",
-            Layer::Record => "record",
-        })
+        f.write_str(self.word())
     }
 }
 

@@ -108,7 +108,8 @@ pub fn fault_line(heap: Global, fault: Fault) -> Result<String, AllocError>
     ensures { IfOk result (λ s. string_bytes s ≡ fault_text (cause_number fault.cause) fault.byte (word_of fault.layer)) }
 {
     let cause = u8::from(fault.cause);
-    let Fault { byte, layer, .. } = fault;
+    let byte = fault.byte;
+    let layer = fault.layer.word();
     format!(in heap; "fault {cause} {byte} {layer}\n")
 }
 
