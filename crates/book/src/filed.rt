@@ -56,12 +56,13 @@ impl<'a> FiledBook<'a> {
         self.bytes.get(i).copied().unwrap_or(0)
     }
 
-    // Two bytes as a number, the highest first.
-    fn number(&self, i: usize) -> u16
+    // Two bytes as a number, the highest first. In a usize, as a place is: the place of each field waits for the one before it.
+    fn number(&self, i: usize) -> usize
         requires { i < 2 ^ 48 }
-        ensures { result ≡ slice_index self.now.bytes.now i * 256 + slice_index self.now.bytes.now (i + 1) }
+        ensures is { result ≡ slice_index self.now.bytes.now i * 256 + slice_index self.now.bytes.now (i + 1) }
+        ensures small { result < 2 ^ 16 }
     {
-        u16::from_be_bytes([self.byte(i), self.byte(i + 1)])
+        usize::from(self.byte(i)) * 256 + usize::from(self.byte(i + 1))
     }
 
     fn player_count(&self) -> u8
@@ -94,7 +95,7 @@ impl<'a> FiledBook<'a> {
         ensures is { result ≡ after_of self.now.bytes.now at }
         ensures near { result ≤ at + 65538 }
     {
-        at + 3 + usize::from(self.number(at + 1))
+        at + 3 + self.number(at + 1)
     }
 
     // Where the state's field stands.
@@ -160,7 +161,7 @@ impl Game for FiledBook<'_> {
 
     fn labels(&self, state: u8) -> u16 {
         if self.is_state(state) {
-            self.number(self.spot(state) + 3)
+            self.number(self.spot(state) + 3) as u16
         } else {
             0
         }
