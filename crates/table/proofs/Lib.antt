@@ -8,4 +8,4 @@ pub mod Rounding
 pub mod Calls
 pub mod Books
 pub mod Copying
-pub mod Mapping
+pub mod Filling

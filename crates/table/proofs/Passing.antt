@@ -1,5 +1,5 @@
 -- A pass over the states, one state further.
-use Rattle.std.proofs.Common.{◌≡◌, ℕ, suc, ◌+◌, ◌<◌, ◌≤◌, Bool, true, false, cond, not, ◌&&◌, ◌||◌, eqb, ◌≢◌, List, length, get_or, set, sym, refl, ap, ◌∙◌, subst, ⊎_elim, add-one, arith, length-set, get_or-set_other, get_or-set_same}
+use Rattle.std.proofs.Common.{◌≡◌, ℕ, suc, ◌+◌, ◌<◌, Bool, true, false, cond, not, ◌&&◌, ◌||◌, eqb, ◌≢◌, List, length, get_or, set, sym, refl, ap, ◌∙◌, subst, ⊎_elim, add-one, arith, length-set, get_or-set_other, get_or-set_same}
 use Rattle.std.proofs.lemmas.Bool.{cases_eq}
 use Rattle.game.specs.Structure.{Structure}
 use Rattle.game.specs.Serving.{set_of}
@@ -106,10 +106,10 @@ module _ (m : Structure) (y y' : Rule) (sets : Sets) (c : ℕ) (d : Condition) (
     counts = p.counts;
   }
 
-  pub rounded_closed : is_settled d ≡ true → m.states ≤ 256 → (y'' : Rule) → Closed (moved y' d) y'' → Rounded m y sets y'' c
-  rounded_closed f many y'' k = record {
+  pub rounded_closed : is_settled d ≡ true → (y'' : Rule) → Closed m.states (moved y' d) y'' → Rounded m y sets y'' c
+  rounded_closed f y'' k = record {
     kept = record { kind = k.kept.kind ∙ p.kept.kind; group = k.kept.group ∙ p.kept.group; r = k.kept.r ∙ p.kept.r; s = k.kept.s ∙ p.kept.s; long = k.kept.long ∙ p.kept.long };
     condition = k.condition ∙ e;
-    marks = λ q l. k.marks q (omega arith) ∙ ap (λ (g : Kind). closed g true (get_or y'.marks q Open)) p.kept.kind ∙ ap (closed y.kind true) (p.passed q l) ∙ ap (λ (b : Bool). closed y.kind b (new_mark m y sets q (get_or y.marks q Open))) (sym f ∙ done_is);
+    marks = λ q l. k.marks q l ∙ ap (λ (g : Kind). closed g true (get_or y'.marks q Open)) p.kept.kind ∙ ap (closed y.kind true) (p.passed q l) ∙ ap (λ (b : Bool). closed y.kind b (new_mark m y sets q (get_or y.marks q Open))) (sym f ∙ done_is);
     counts = p.counts;
   }

@@ -139,11 +139,12 @@ module _ (m : Structure) (y : Rule) (sets : Sets) where
     pub marks : (q : ℕ) → q < m.states → slice_index_or y'.marks q Open ≡ closed y.kind (one_round y.kind || c == 0) (new_mark q (slice_index_or y.marks q Open))
     pub counts : c ≡ tally gets_marked m.states
 
--- y' is y with its states closed
-pub record Closed (y y' : Rule) : Type 0 where
+-- y' is y with the first n states closed
+pub record Closed (n : ℕ) (y y' : Rule) : Type 0 where
   pub kept : Kept y y'
   pub condition : y'.condition ≡ y.condition
-  pub marks : (q : ℕ) → q < 256 → slice_index_or y'.marks q Open ≡ closed y.kind true (slice_index_or y.marks q Open)
+  pub marks : (q : ℕ) → q < n → slice_index_or y'.marks q Open ≡ closed y.kind true (slice_index_or y.marks q Open)
+  pub rest : (q : ℕ) → n ≤ q → slice_index_or y'.marks q Open ≡ slice_index_or y.marks q Open
 
 -- y' is y after one more round over the yes states of its parts
 pub record Worked (m : Structure) (y : Rule) (parts : Parts) (y' : Rule) (c : ℕ) : Type 0 where

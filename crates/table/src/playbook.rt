@@ -12,6 +12,7 @@ use atl::{Kind, Mark, Modality, Temporal};
 use game::Game;
 use refusal::Refusal;
 use search::{first_choice, serving};
+use std::array;
 
 // A yes with a number below this one.
 fn yes_below(number: u16, mark: Mark) -> bool
@@ -46,7 +47,7 @@ impl Rule {
     fn yes_states_below(&self, number: u16) -> [bool; 256]
         ensures { Below self.now number result }
     {
-        self.marks.map(|mark| yes_below(number, mark))
+        array::from_fn(|state| yes_below(number, self.marks[state]))
     }
 
     // What kind of playbook the rule has, or why it has none.

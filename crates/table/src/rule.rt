@@ -1,5 +1,5 @@
 // One rule of the table: its rounds.
-ghost use Rattle.std.specs.Prelude.{◌≡◌, suc, ◌<◌, true, not, ◌&&◌, ◌||◌, if◌then◌else◌, ◌==◌};
+ghost use Rattle.std.specs.Prelude.{◌≡◌, suc, ◌<◌, ◌≤◌, true, not, ◌&&◌, ◌||◌, if◌then◌else◌, ◌==◌};
 ghost use Rattle.game.specs.Serving.{set_of};
 ghost use Rattle.atl.specs.declared.Mark.TheVariants.{Open};
 ghost use Rattle.atl.specs.Rounds.{holds as holds_for, labelled as labelled_at, is_open, one_round, closed as closed_as, once};
@@ -10,6 +10,7 @@ use crate::types::{Condition, Parts, Rule, Sets};
 use atl::{Kind, Mark, Modality, Temporal};
 use game::Game;
 use search::{answering, serving};
+use std::array;
 
 impl Condition {
     pub(crate) fn rounds(self) -> u16
@@ -123,14 +124,14 @@ impl Rule {
     pub(crate) fn yes_states(&self) -> [bool; 256]
         ensures { YesMarks self.now result }
     {
-        self.marks.map(|mark| mark.is_yes())
+        array::from_fn(|state| self.marks[state].is_yes())
     }
 
     // The states that the next round of an until or an unless aims at: those marked yes, or those open.
     fn aim(&self) -> [bool; 256]
         ensures { Aim self.now result }
     {
-        self.marks.map(|mark| aimed_at(self.kind, mark))
+        array::from_fn(|state| aimed_at(self.kind, self.marks[state]))
     }
 
     // What the next round marks an open state with.
@@ -194,11 +195,14 @@ impl Rule {
     }
 
     // Gives the states that are still open what a settled rule says of them.
-    fn close(&mut self)
-        ensures { Closed self.old self.new }
+    fn close(&mut self, states: u16)
+        requires { states ≤ 256 }
+        ensures { Closed states self.old self.new }
     {
         let kind = self.kind;
-        self.marks = self.marks.map(|mark| closed(kind, mark));
+        for mark in &mut self.marks[..usize::from(states)] {
+            *mark = closed(kind, *mark);
+        }
     }
 
     // One more round, over the yes states of the parts: marks what it marks, and moves the rule on.
@@ -212,7 +216,8 @@ impl Rule {
         let marked = self.pass(game, &sets);
         self.condition = self.condition.after(self.kind, marked);
         if self.condition.is_settled() {
-            self.close();
+            let (states, _) = game.states();
+            self.close(states);
         }
         marked
     }
