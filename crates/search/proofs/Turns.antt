@@ -6,7 +6,7 @@ use Rattle.std.proofs.lemmas.Bool.{ltb-true, lt-ltb, le-ltb, cond-true, cond-fal
 use Rattle.game.specs.Lists.{least, lift, lowest, following, from}
 use Rattle.game.proofs.Walk.{rest_from}
 use Rattle.search.specs.declared.numbers.Numbers.{Numbers}
-use Rattle.search.specs.Left.{numbers_left}
+use Rattle.search.specs.Left.{coming, numbers_left}
 
 pub lowest_none : (n h : ℕ) → n ≡ 0 → 0 ≡ lowest n h
 unfolding lowest
@@ -83,13 +83,13 @@ pub following_room : (n h v x : ℕ) → h < 2 ^ 32 → v < 2 ^ 32 → Some x �
 following_room n h v x l m e = let f : Fits 7 (Some x) = subst (Fits 7) (sym e) (following_fits 7 n (h / 16) (v / 16) (omega arith) (omega arith)) in omega arith
 
 -- the iterator
-pub left_none : (s : Numbers) {r : Option ℕ} → s.next ≡ None → r ≡ None → YieldsFirst numbers_left s r s
+pub left_none : (s : Numbers) {r : Option ℕ} → coming s.players s.highest s.place ≡ None → r ≡ None → YieldsFirst numbers_left s r s
 unfolding from
 left_none s e f = let h : numbers_left s ≡ [] = ap (from s.players s.highest) e in subst (λ r. YieldsFirst numbers_left s r s) (sym f) (h, h)
 
-pub left_some : (s : Numbers) {v : ℕ} {o : Option ℕ} → s.next ≡ Some v → o ≡ following s.players s.highest v → numbers_left s ≡ v ∷ from s.players s.highest o
+pub left_some : (s : Numbers) {v : ℕ} → coming s.players s.highest s.place ≡ Some v → numbers_left s ≡ v ∷ from s.players s.highest (following s.players s.highest v)
 unfolding from
-left_some s {v} e f = ap (from s.players s.highest) e ∙ ap (λ xs. v ∷ xs) (rest_from s.players s.highest v ∙ ap (from s.players s.highest) (sym f))
+left_some s {v} e = ap (from s.players s.highest) e ∙ ap (λ xs. v ∷ xs) (rest_from s.players s.highest v)
 
 pub progress : {xs ys : List ℕ} {v : ℕ} → xs ≡ v ∷ ys → length ys < length xs
 progress e = omega (arith, ap length e)

@@ -37,12 +37,20 @@ fn following(players: u8, highest: u32, number: u32) -> Option<u32>
     Some(others * 16 + first_move(highest % 16))
 }
 
-// The numbers that are still to come. It is `Copy`, since each choice goes through the replies again.
+// Where an iterator stands: at the number that comes next, or after the last one that was given.
+#[derive(Clone, Copy)]
+enum Place {
+    At(u32),
+    After(u32),
+}
+
+// The numbers that are still to come. The next one is made only when it is asked for, since the first reply often decides a choice.
+// It is `Copy`, since each choice goes through the replies again.
 #[derive(Clone, Copy)]
 pub struct Numbers {
     players: u8,
     highest: u32,
-    next: Option<u32>,
+    place: Place,
 }
 
 impl Numbers {
@@ -53,7 +61,7 @@ impl Numbers {
         Numbers {
             players,
             highest,
-            next: Some(lowest(players, highest)),
+            place: Place::At(lowest(players, highest)),
         }
     }
 }
@@ -67,8 +75,11 @@ impl Iterator for Numbers {
 
     #[tactic(auto, using(crate::proofs::Turns::left_none, crate::proofs::Turns::left_some, crate::proofs::Turns::progress))]
     fn next(&mut self) -> Option<u32> {
-        let number = self.next?;
-        self.next = following(self.players, self.highest, number);
+        let number = match self.place {
+            Place::At(number) => number,
+            Place::After(number) => following(self.players, self.highest, number)?,
+        };
+        self.place = Place::After(number);
         Some(number)
     }
 }
