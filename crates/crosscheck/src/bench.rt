@@ -169,17 +169,16 @@ impl<'a, G: Game + Drop> Bench<'a, G> {
         self.call(Call::Copy(number, 3), bytes + 7)?;
         self.call(Call::Copy(number, 0), bytes)?;
         self.call(Call::Copy(number, 1), bytes)?;
-        let unmet = self.second.unmet(number, &playbook)?;
-        add(
-            &mut self.notes.compared().runs,
-            self.second.layout.states as usize,
-        );
+        let kept = self.second.keeps(number, &playbook)?;
+        add(&mut self.notes.compared().runs, kept.len());
         let heap = self.notes.tally.heap;
-        for state in unmet.iter() {
-            let what = format!(in heap;
-                "rule {number} ({rule}): the playbook from state {state} does not meet it"
-            )?;
-            self.notes.differs(&what)?;
+        for (state, is_kept) in kept.iter().enumerate() {
+            if !*is_kept {
+                let what = format!(in heap;
+                    "rule {number} ({rule}): the playbook from state {state} does not meet it"
+                )?;
+                self.notes.differs(&what)?;
+            }
         }
         Ok(())
     }

@@ -1,10 +1,12 @@
 // The two sides of each state for a group: what it chooses, and where the replies lead.
 use crate::layout::{Counts, Layout, Step, product};
 use std::alloc::{AllocError, Global};
+use std::array;
 
 // Which places have a member.
 pub fn members(group: u8) -> [bool; 6] {
-    [1u8, 2, 4, 8, 16, 32].map(|bit| group & bit != 0)
+    let bits = [1u8, 2, 4, 8, 16, 32];
+    array::from_fn(|place| group & bits[place] != 0)
 }
 
 // Fifteen in the place of each member, four bits a player.
@@ -21,13 +23,8 @@ pub fn ones(group: u8) -> u32 {
 
 // The counts with 1 in place of each non-member's.
 fn own(group: u8, counts: Counts) -> Counts {
-    let mut own = counts;
-    for (count, member) in own.iter_mut().zip(members(group)) {
-        if !member {
-            *count = 1;
-        }
-    }
-    own
+    let members = members(group);
+    array::from_fn(|place| if members[place] { counts[place] } else { 1 })
 }
 
 // The place of a vector's moves among those that these counts allow; a count of 1 makes no difference. A loop and no fold: three numbers go on from count to count.

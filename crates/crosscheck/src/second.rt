@@ -1,5 +1,5 @@
 // The second judge's board: the rules that stand, each judged whole when it is written and shown as far as its rounds have gone.
-ghost use Rattle.std.specs.Prelude.{◌≡◌, vec_len, nat_le, nat_lt};
+ghost use Rattle.std.specs.Prelude.{◌≡◌, length, vec_len, nat_le, nat_lt, IfOk};
 
 use crate::judged::{Judged, Mark, Parts};
 use crate::layout::Layout;
@@ -106,21 +106,26 @@ impl Second {
         }
     }
 
-    // The states from which the playbook names no choice, or has a run that does not meet the rule though it is yes there.
-    pub fn unmet(&self, rule: u8, playbook: &[u32]) -> Result<Vec<u8>, AllocError> {
-        let mut unmet = Vec::new(self.heap);
-        let Ok(standing) = self.standing(rule) else {
-            return Ok(unmet);
-        };
-        let rule = standing.rule;
+    // For each mark of a rule, from state 0, whether the playbook has a choice there, and only runs that meet the rule where it is yes.
+    fn kept(&self, rule: Rule, marks: &[Mark], playbook: &[u32]) -> Result<Vec<bool>, AllocError>
+        ensures { IfOk result (λ kept. length kept.items ≡ length marks.now) }
+    {
         let parts = self.parts(rule);
         let runs = Runs::of(self.heap, &self.layout, rule.group, playbook)?;
-        for (state, mark) in (0..=u8::MAX).zip(standing.judged.marks.iter()) {
-            if !runs.goes_on(state) || (mark.yes && !runs.meet(rule, state, *mark, parts)?) {
-                unmet.push(state)?;
-            }
+        let mut kept = Vec::new(self.heap);
+        for (place, mark) in marks.iter().enumerate() {
+            let state = u8::try_from(place).unwrap_or(u8::MAX);
+            kept.push(runs.goes_on(state) && (!mark.yes || runs.meet(rule, state, *mark, parts)?))?;
         }
-        Ok(unmet)
+        Ok(kept)
+    }
+
+    // The same of the rule of this number; nothing where none stands.
+    pub fn keeps(&self, rule: u8, playbook: &[u32]) -> Result<Vec<bool>, AllocError> {
+        match self.standing(rule) {
+            Ok(standing) => self.kept(standing.rule, standing.judged.marks.as_slice(), playbook),
+            Err(_) => Ok(Vec::new(self.heap)),
+        }
     }
 
     fn part_settled(&self, rule: u8) -> bool {
