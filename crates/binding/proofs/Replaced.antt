@@ -7,6 +7,7 @@ use Rattle.game.specs.Lists.{member, own, other, highest}
 use Rattle.game.specs.Bound.{left, legal, placed}
 use Rattle.game.proofs.Walk.{highest_mod, highest_div}
 use Rattle.game.proofs.Division.{own_digits, other_digits}
+use Rattle.game.proofs.Highest.{below_most}
 use Rattle.binding.proofs.Digits.{digit_more}
 
 -- one player's digit: the limit d, the entry's move e, its own v
@@ -28,6 +29,12 @@ placed_more (suc n) h e v z = let k : suc n - 1 ≡ n = omega arith in rw k refl
 replaced_none : (d e v : ℕ) → d ≡ 0 → replaced d e v ≡ v
 replaced_none d e v z = rw z refl
 
+-- no longer than there are players
+placed_below : (n h e v : ℕ) → placed n h e v < 16 ^ n
+unfolding placed
+placed_below zero h e v = omega arith
+placed_below (suc n) h e v = digit_more n _ _ (placed_below n (h / 16) (e / 16) (v / 16)) (replaced_small (h % 16) (e % 16) (v % 16) (omega arith) (omega arith))
+
 -- no longer than the limits and the vector
 placed_fits : (k n h e v : ℕ) → h < 16 ^ k → v < 16 ^ k → placed n h e v < 16 ^ k
 unfolding placed
@@ -40,6 +47,13 @@ placed_fits (suc k) (suc n) h e v l m =
 pub placed_room : (n h e v x y : ℕ) → h < 2 ^ 32 → v < 2 ^ 32 → x ≡ placed (n - 1) (h / 16) (e / 16) (v / 16) → y ≡ replaced (h % 16) (e % 16) (v % 16) → (x < 2 ^ 28) × (y ≤ 15)
 placed_room n h e v x y l m f g = (
   omega (arith, f, placed_fits 7 (n - 1) (h / 16) (e / 16) (v / 16) (omega arith) (omega arith)),
+  rw g (replaced_small (h % 16) (e % 16) (v % 16) (omega arith) (omega arith)),
+)
+
+-- of six players at most it takes 24 bits, whatever the limits and the vector
+pub placed_room_of_six : (n h e v x y : ℕ) → (n ≡ 0 → ⊥) → n ≤ 6 → x ≡ placed (n - 1) (h / 16) (e / 16) (v / 16) → y ≡ replaced (h % 16) (e % 16) (v % 16) → (x < 2 ^ 20) × (y ≤ 15)
+placed_room_of_six n h e v x y z l f g = (
+  below_most (n - 1) 5 x (omega arith) (rw f (placed_below (n - 1) (h / 16) (e / 16) (v / 16))),
   rw g (replaced_small (h % 16) (e % 16) (v % 16) (omega arith) (omega arith)),
 )
 

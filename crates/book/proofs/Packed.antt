@@ -7,6 +7,16 @@ use Rattle.game.specs.Structure.{product}
 use Rattle.game.proofs.Walk.{Digits, highest_mod, highest_div, highest_below}
 use Rattle.book.specs.Filed.{count_at, moves_at, place}
 
+-- one more player, above those so far
+highest_last : (d : ℕ → ℕ) (a n : ℕ) → highest d a (suc n) ≡ highest d a n + d (suc (a + n)) * 16 ^ n
+unfolding highest
+highest_last d a zero = let e : a + 0 ≡ a = omega arith in rw e (omega arith)
+highest_last d a (suc n) =
+    let e : suc a + n ≡ a + suc n = omega arith in
+    let ih : highest d (suc a) (suc n) ≡ highest d (suc a) n + d (suc (a + suc n)) * 16 ^ n = highest_last d (suc a) n ∙ ap (λ k. highest d (suc a) n + d (suc k) * 16 ^ n) e in
+    let p : d (suc (a + suc n)) * 16 ^ suc n ≡ d (suc (a + suc n)) * 16 ^ n * 16 = ap (λ x. d (suc (a + suc n)) * x) (pow-suc 16 n) ∙ sym (mul_assoc (d (suc (a + suc n))) (16 ^ n) 16) in
+    omega arith
+
 pub highest_same : (d e : ℕ → ℕ) (a n : ℕ) → ((b : ℕ) → a < b → b ≤ a + n → d b ≡ e b) → highest d a n ≡ highest e a n
 unfolding highest
 highest_same d e a zero h = refl

@@ -1,7 +1,7 @@
 -- Stepping through the numbers under limits gives the list of them numbers.
 use Rattle.std.proofs.Common.{◌≡◌, ℕ, zero, suc, ◌+◌, ◌-◌, ◌*◌, ◌/◌, ◌%◌, ◌^◌, ◌<◌, ◌≤◌, min, cond, ltb, ◌⊎◌, ◌∷◌, ◌++◌, Some, None, Option, sym, refl, ap, ◌∙◌, inl, inr, arith}
 use native.Mathlib.Nat.{pow-succ'}
-use Rattle.std.proofs.lemmas.Bool.{cases_lt, lt-ltb, le-ltb, cond-true, cond-false}
+use Rattle.std.proofs.lemmas.Bool.{ltb-true, cases_lt, lt-ltb, le-ltb, cond-true, cond-false, cond_both}
 use Rattle.game.specs.Lists.{above, least, spread, numbers, rest, from, highest, lowest, lift, following}
 
 -- every limit is one digit
@@ -84,6 +84,29 @@ pub highest_below : (d : ℕ → ℕ) (a n : ℕ) → Digits d → highest d a n
 unfolding highest
 highest_below d a zero h = omega arith
 highest_below d a (suc n) h = omega (arith, highest_below d (suc a) n h, h (suc a), pow-succ' 16 n)
+
+pub lowest_below : (n h : ℕ) → lowest n h < 16 ^ n
+unfolding lowest least
+lowest_below zero h = omega arith
+lowest_below (suc n) h = omega (arith, lowest_below n (h / 16), pow-succ' 16 n)
+
+-- None, or a number of n digits
+abbrev pub Fits : ℕ → Option ℕ → Type 0
+Fits n None = Unit {0}
+Fits n (Some v) = v < 16 ^ n
+
+pub lift_fits : (n d : ℕ) (o : Option ℕ) → Fits n o → Fits (suc n) (lift d o)
+unfolding lift least
+lift_fits n d None f = tt
+lift_fits n d (Some w) f = omega (arith, pow-succ' 16 n)
+
+pub following_below : (n h v : ℕ) → v < 16 ^ n → Fits n (following n h v)
+unfolding following
+following_below zero h v l = tt
+following_below (suc n) h v l =
+    cond_both (ltb (v % 16) (h % 16)) (Some (v + 1)) (lift (h % 16) (following n (h / 16) (v / 16))) (Fits (suc n))
+    (λ e. omega (arith, ltb-true (v % 16) (h % 16) e, pow-succ' 16 n))
+    (λ e. lift_fits n (h % 16) (following n (h / 16) (v / 16)) (following_below n (h / 16) (v / 16) (omega (arith, pow-succ' 16 n))))
 
 pub highest_more : (d : ℕ → ℕ) (a p : ℕ) → 0 < a → a ≤ p → highest d (a - 1) (p - (a - 1)) ≡ highest d a (p - a) * 16 + d a
 unfolding highest

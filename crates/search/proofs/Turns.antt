@@ -4,7 +4,7 @@ use native.Mathlib.Nat.{pow-succ'}
 use Rattle.std.specs.Iterator.{YieldsFirst}
 use Rattle.std.proofs.lemmas.Bool.{ltb-true, lt-ltb, le-ltb, cond-true, cond-false, cond_both}
 use Rattle.game.specs.Lists.{least, lift, lowest, following, from}
-use Rattle.game.proofs.Walk.{rest_from}
+use Rattle.game.proofs.Walk.{Fits, lift_fits, rest_from}
 use Rattle.search.specs.declared.numbers.Numbers.{Numbers}
 use Rattle.search.specs.Left.{coming, numbers_left}
 
@@ -48,20 +48,10 @@ lowest_fits k zero h l = omega arith
 lowest_fits zero (suc n) h l = omega (arith, lowest_fits zero n (h / 16) (omega arith))
 lowest_fits (suc k) (suc n) h l = omega (arith, lowest_fits k n (h / 16) (omega (arith, pow-succ' 16 k)), pow-succ' 16 k)
 
--- None, or a number of n digits
-abbrev Fits : ℕ → Option ℕ → Type 0
-Fits n None = Unit {0}
-Fits n (Some v) = v < 16 ^ n
-
 lift_zero : (d : ℕ) (o : Option ℕ) → d ≡ 0 → Fits 0 o → Fits 0 (lift d o)
 unfolding lift least
 lift_zero d None e f = tt
 lift_zero d (Some w) e f = omega arith
-
-lift_fits : (k d : ℕ) (o : Option ℕ) → Fits k o → Fits (suc k) (lift d o)
-unfolding lift least
-lift_fits k d None f = tt
-lift_fits k d (Some w) f = omega (arith, pow-succ' 16 k)
 
 following_fits : (k n h v : ℕ) → h < 16 ^ k → v < 16 ^ k → Fits k (following n h v)
 unfolding following
