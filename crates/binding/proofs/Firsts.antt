@@ -70,6 +70,17 @@ built m l o f = record {
   next = λ q v. cond (ltb q m.states && under m.players (highest (l q) 0 m.players) v) (m.next q (placed m.players (highest (o q) 0 m.players) (f q) v)) None;
 }
 
+-- a player with a move is one of the players
+some_move : (m : Structure) → Limits m → (a q : ℕ) → 1 ≤ m.moves a q → (0 < a) × (a ≤ 6)
+some_move m L a q h =
+    ⊎_elim
+    (λ (l : 0 < a). ⊎_elim (λ (k : m.players < a). absurd (none (λ p. omega arith))) (λ (k : a ≤ m.players). (l, omega (arith, L.six))) (cases_lt m.players a))
+    (λ (l : a ≤ 0). absurd (none (λ p. omega arith)))
+    (cases_lt 0 a)
+  where
+    none : (Player m a × (q < m.states) → ⊥) → ⊥
+    none e = omega (arith, L.no_move a q e)
+
 cond_none : (b : Bool) → cond {A = ℕ} b 0 0 ≡ 0
 cond_none true = refl
 cond_none false = refl

@@ -50,6 +50,12 @@ told_some bs k f e = ⊎_elim
     same : {a b : RuleField} → ◌≡◌ {A = Option RuleField} (Some a) (Some b) → b ≡ a
     same i = cc
 
+pub told_none : (bs : List ℕ) (k : ℕ) → rule_told bs k ≡ None → rule_count bs ≤ k
+told_none bs k e = ⊎_elim
+    (λ (b : ltb k (rule_count bs) ≡ true). let i = sym (cond-true _ (Some (rule_number bs k)) None b) ∙ e in absurd (let z : ◌≡◌ {A = ℕ} 0 1 = cc in omega arith))
+    (λ (b : ltb k (rule_count bs) ≡ false). ltb-false k (rule_count bs) b)
+    (cases_Bool (ltb k (rule_count bs)))
+
 -- The rules that an iterator yields, ys so far.
 at_end : (ys rest : List RuleField) (f d : RuleField) → slice_index_or (ys ++ f ∷ rest) (length ys) d ≡ f
 at_end [] rest f d = refl

@@ -290,10 +290,10 @@ does_refused_round m t n e h = record {
   refused = λ x q. refl;
 }
 
-pub does_round : (m : Structure) → Limits m → (t t' : Table) (n c : ℕ) → Tested t n → Stepped m t t' n c → Does m (round_answer m n) (round_after m n) t t' (Ok c)
+pub does_round : (m : Structure) → Limits m → (t t' : Table) (n c : ℕ) → Tested t n → (length t.rules ≡ 32 → Stepped m t t' n c) → Does m (round_answer m n) (round_after m n) t t' (Ok c)
 does_round m L t t' n c h s = record {
-  answers = λ st p. let d = due m t st p n h in ap Ok (counted m t st p L t' n c d s) ∙ sym d.answer;
-  shows = λ st p. let d = due m t st p n h in subst (λ (a : Result ℕ Refusal). Shows m (advanced_if m a n st) t') (sym d.answer) (shows_next m t st p L t' n c d s);
+  answers = λ st p. let d = due m t st p n h in ap Ok (counted m t st p L t' n c d (s p.long)) ∙ sym d.answer;
+  shows = λ st p. let d = due m t st p n h in subst (λ (a : Result ℕ Refusal). Shows m (advanced_if m a n st) t') (sym d.answer) (shows_next m t st p L t' n c d (s p.long));
   refused = λ x q. err_ok (sym q);
 }
 
